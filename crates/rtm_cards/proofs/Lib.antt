@@ -1,0 +1,9 @@
+pub mod Spans
+pub mod FirstLine
+pub mod Parts
+pub mod CutTo
+pub mod CardForm
+pub mod Cutting
+pub mod Spelled
+pub mod LineLaws
+pub mod FaultLaws

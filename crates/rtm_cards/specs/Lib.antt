@@ -1,0 +1,10 @@
+pub mod Limits
+pub mod Name
+pub mod Text
+pub mod Span
+pub mod Lines
+pub mod Fields
+pub mod Rules
+pub mod Cards
+pub mod Faults
+pub mod Spelling

@@ -1,0 +1,106 @@
+ghost use Rattle.std.specs.Prelude.{◌≡◌, [], length};
+ghost use Rattle.std.specs.List.{list_all};
+ghost use Rattle.rtm_deck.specs.Fits.{is_abend_code, is_setrp_rc, setrp_fits, op_fits, program_fits, units_fit, fits};
+
+use crate::deck::{Line, Program, Unit, UnitKind};
+use crate::op::{Op, Setrp};
+use rtm_codes::Code;
+
+/// How many entries a history has at most where no card says otherwise (this profile).
+pub(crate) const DEFAULT_LIMIT: u32 = 20_000;
+
+/// How many programs a deck has at most (this profile).
+pub(crate) const MOST_PROGRAMS: usize = 256;
+
+/// How many cards a program has at most (this profile).
+pub(crate) const MOST_LINES: usize = 10_000;
+
+/// Whether these are the programs and units of a deck that can be run so far.
+pub(crate) fn deck_fits(programs: &[Program], units: &[Unit]) -> bool
+    ensures { result ≡ fits (record { limit = 20000; programs = programs.now; units = units.now; commands = [] }) }
+{
+    programs.len() <= MOST_PROGRAMS && programs_fit(programs) && units_fit(programs.len(), units)
+}
+
+fn programs_fit(programs: &[Program]) -> bool
+    ensures { result ≡ list_all (program_fits (length programs.now)) programs.now }
+{
+    programs
+        .iter()
+        .all(|program| program_fits(programs.len(), program))
+}
+
+fn program_fits(programs: usize, program: &Program) -> bool
+    ensures { result ≡ program_fits programs program.now }
+{
+    program.lines.len() <= MOST_LINES && lines_fit(programs, &program.lines)
+}
+
+fn lines_fit(programs: usize, lines: &[Line]) -> bool
+    ensures { result ≡ list_all (λ line. op_fits programs line.op) lines.now }
+{
+    lines.iter().all(|line| op_fits(programs, &line.op))
+}
+
+fn op_fits(programs: usize, op: &Op) -> bool
+    ensures { result ≡ op_fits programs op.now }
+{
+    match *op {
+        Op::Nop | Op::Return => true,
+        Op::Abend {
+            code,
+            reason,
+            dump,
+            step,
+        } => is_abend_code(code) && reason.is_none() && !dump && !step,
+        Op::EstaexCt {
+            prog,
+            term,
+            cancel,
+            xctl,
+        } => (prog as usize) < programs && !term && cancel && !xctl,
+        Op::SetRp(setrp) => setrp_fits(&setrp),
+        _ => false,
+    }
+}
+
+fn is_abend_code(code: Code) -> bool
+    ensures { result ≡ is_abend_code code }
+{
+    match code {
+        Code::Sys(number) => 1 <= number && number <= 4095,
+        Code::User(number) => number <= 4095,
+    }
+}
+
+fn setrp_fits(setrp: &Setrp) -> bool
+    ensures { result ≡ setrp_fits setrp.now }
+{
+    is_setrp_rc(setrp.rc)
+        && (setrp.rc.is_some() || setrp.retaddr.is_some() || setrp.remrec.is_some())
+        && setrp.compcod.is_none()
+        && setrp.reason.is_none()
+        && setrp.dump.is_none()
+        && setrp.logrec.is_none()
+        && setrp.fresdwa.is_none()
+}
+
+fn is_setrp_rc(rc: Option<u8>) -> bool
+    ensures { result ≡ is_setrp_rc rc }
+{
+    match rc {
+        None => true,
+        Some(number) => number == 0 || number == 4 || number == 16,
+    }
+}
+
+fn units_fit(programs: usize, units: &[Unit]) -> bool
+    ensures { result ≡ units_fit programs units.now }
+{
+    match units {
+        [unit] => {
+            unit.kind == UnitKind::Task && (unit.prog as usize) < programs && unit.related.is_none()
+        }
+        _ => false,
+    }
+}

@@ -1,0 +1,5 @@
+pub mod Faults
+pub mod Input
+pub mod MemSink
+pub mod MemSource
+pub mod Stream

@@ -1,0 +1,5 @@
+pub mod Lists
+pub mod Decks
+pub mod CanNext
+pub mod Keeps
+pub mod Histories

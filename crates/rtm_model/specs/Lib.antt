@@ -1,0 +1,7 @@
+pub mod Record
+pub mod Unit
+pub mod Next
+pub mod Advance
+pub mod History
+pub mod Sound
+pub mod Fitting

@@ -1,0 +1,20 @@
+//! The entries of a recovery trace, the plain data that control blocks hold, and the definitions of the machine.
+#![tactic(auto)]
+
+mod abort;
+mod block;
+mod entry;
+mod error_record;
+mod holding;
+pub mod laws;
+mod mark;
+mod reg;
+
+pub use abort::Abort;
+pub use block::{Block, Bracket, Place};
+pub use entry::{Class, End, Entry, Fate, Verdict, What};
+pub use error_record::{ErrorRecord, RecordFlags};
+pub use holding::{Holding, Manager1};
+pub use mark::Mark;
+pub use reg::{Full, Kind, Reg};
+pub use rtm_deck::Res;

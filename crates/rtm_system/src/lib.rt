@@ -1,0 +1,11 @@
+//! The machine: runs a deck, one entry at a time, exactly as the definitions say.
+#![tactic(auto)]
+
+mod error_steps;
+mod room;
+mod stepped;
+mod system;
+mod unit_state;
+
+pub use stepped::Stepped;
+pub use system::System;

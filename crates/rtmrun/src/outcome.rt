@@ -1,0 +1,86 @@
+//! The words that the program is given, and what it answers.
+
+use rtm_model::End;
+use std::marker::Model;
+
+/// A word that the program was given.
+#[derive(Drop)]
+pub struct RtmWord {
+    pub text: String,
+}
+
+impl Model for RtmWord {
+    ghost use Rattle.std.specs.Prelude.{ℕ, List, string_bytes};
+
+    ghost Value = { List ℕ };
+
+    ghost view = { λ word. string_bytes word.text };
+}
+
+/// How a call of the program went (this profile). The number of each is that of `exit_status`.
+#[derive(Clone, Copy, Debug, PartialEq, Eq)]
+pub enum Status {
+    /// All was written, and the run ended with the address space.
+    Fine,
+    /// All was written, and the run ended where no unit could go on.
+    Stalled,
+    /// All was written, and the run ended at the limit of entries.
+    AtLimit,
+    /// The deck was refused, and the refusal was written.
+    Deck,
+    /// The trace has a line that isn't as a trace's line is written. Of no word so far.
+    Line,
+    /// The trace isn't a legal history. Of no word so far.
+    NotLegal,
+    /// The trace has another end. Of no word so far.
+    WrongEnd,
+    /// Memory was refused. Nothing was written.
+    Memory,
+    /// The source failed. Nothing was written.
+    Read,
+    /// The sink failed. A prefix of the text stands written.
+    Write,
+    /// The words are none that the program knows. Nothing was read, and nothing was written.
+    Words,
+}
+
+/// What a call of the program gives back.
+#[derive(Debug, Drop)]
+pub struct Outcome {
+    pub status: Status,
+}
+
+impl Status {
+    ghost use Rattle.std.specs.Prelude.{◌≡◌};
+    ghost use Rattle.rtmrun.specs.Answer.{exit_status, status_of};
+
+    /// The status that the program ends with.
+    pub fn exit_status(self) -> u8
+        ensures { result ≡ exit_status self }
+    {
+        match self {
+            Status::Fine => 0,
+            Status::Stalled => 4,
+            Status::AtLimit => 6,
+            Status::Deck => 8,
+            Status::Line => 9,
+            Status::NotLegal => 10,
+            Status::WrongEnd => 11,
+            Status::Memory => 12,
+            Status::Read => 16,
+            Status::Write => 17,
+            Status::Words => 20,
+        }
+    }
+
+    /// The status of a history that was written, by its end.
+    pub fn of_end(end: End) -> Status
+        ensures { result ≡ status_of end }
+    {
+        match end {
+            End::Ended => Status::Fine,
+            End::Stalled => Status::Stalled,
+            End::Limit => Status::AtLimit,
+        }
+    }
+}
