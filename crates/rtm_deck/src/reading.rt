@@ -11,6 +11,7 @@ use crate::op::{Op, Setrp};
 use crate::text::deck_text;
 use rtm_codes::{NoMemory, read_code};
 use std::alloc::Global;
+use std::collections::HashSet;
 use std::mem;
 
 /// What is answered for every deck that isn't read yet.
@@ -18,6 +19,12 @@ const REFUSED: DeckFault = DeckFault::Refused {
     card: 0,
     why: Why::WrongPlace,
 };
+
+/// At most this many cards are read, comments and blank cards among them (this profile).
+const MOST_CARDS: usize = 10_000;
+
+/// At most this many bytes a card has (this profile).
+const MOST_BYTES: usize = 80;
 
 /// The fields of a card: its name or label, the operation, and the operands.
 #[derive(Clone, Copy)]
@@ -27,11 +34,14 @@ struct Fields<'a> {
     operands: &'a [u8],
 }
 
-/// The programs and units of the cards that were read so far, with the cards since the last PEND.
+/// The programs and units of the cards that were read so far, with the cards since the last PEND and their labels, and
+/// the labels of all cards.
 #[derive(Drop)]
 struct Draft {
     programs: Vec<Program>,
     lines: Vec<Line>,
+    labels: HashSet<Name>,
+    all_labels: HashSet<Name>,
     units: Vec<Unit>,
 }
 
@@ -39,12 +49,17 @@ struct Draft {
 /// form, as `deck_text` writes them, and are PROG, PEND, one TASK, END, NOP, RETURN, ABEND with a
 /// code, ESTAEX CT with PGM= alone, and SETRP with RC=, RETADDR= and REMREC=.
 ///
-/// Comments and blank cards may stand anywhere, and the last card needs no line feed. Every other
-/// deck is refused as card 0 with `WrongPlace`.
+/// Comments and blank cards may stand anywhere, and the last card needs no line feed. Each card has at
+/// most 80 bytes of 32 to 126, and there are at most 10,000. Every other deck is refused as card 0 with
+/// `WrongPlace`, among them those in which two programs, or two cards of one program, have one name, or
+/// in which the label of a retry stands on no card.
 pub fn read_deck(alloc: Global, bytes: &[u8]) -> Result<Deck, DeckFault>
     ensures found { IfOk result (λ deck. cards_only bytes.now ≡ canon deck) }
     ensures refused { IfErr result IsThinFault }
 {
+    if !has_plain_cards(bytes) {
+        return Err(REFUSED);
+    }
     let cards = cards_text(alloc, bytes)?;
     let deck = drafted_deck(alloc, &cards)?;
     let text = deck_text(alloc, &deck)?;
@@ -53,6 +68,23 @@ pub fn read_deck(alloc: Global, bytes: &[u8]) -> Result<Deck, DeckFault>
     } else {
         Err(REFUSED)
     }
+}
+
+// Whether each card has at most 80 bytes, all of them printable, and there are at most 10,000 cards, comments and blank
+// cards among them.
+fn has_plain_cards(bytes: &[u8]) -> bool {
+    let mut cards = 0;
+    for card in bytes.split(|byte| *byte == b'\n') {
+        // Behind the last line feed there is no card.
+        if cards > MOST_CARDS {
+            return false;
+        }
+        cards += 1;
+        if card.len() > MOST_BYTES || !card.iter().all(|byte| (32..=126).contains(byte)) {
+            return false;
+        }
+    }
+    cards <= MOST_CARDS || bytes.last() == Some(&b'\n')
 }
 
 // The cards without comments and blank cards, each with a line feed.
@@ -108,6 +140,8 @@ fn drafted_deck(alloc: Global, cards: &[u8]) -> Result<Deck, DeckFault>
     let mut draft = Draft {
         programs: Vec::new(alloc),
         lines: Vec::new(alloc),
+        labels: HashSet::new(alloc),
+        all_labels: HashSet::new(alloc),
         units: Vec::new(alloc),
     };
     for card in cards.split(|byte| *byte == b'\n') {
@@ -122,9 +156,10 @@ fn finished(alloc: Global, draft: Draft) -> Result<Deck, DeckFault>
     let Draft {
         programs,
         units,
+        all_labels,
         ..
     } = draft;
-    if deck_fits(&programs, &units) {
+    if have_labels(&programs, &all_labels) && deck_fits(&programs, &units) {
         Ok(Deck {
             limit: DEFAULT_LIMIT,
             programs,
@@ -133,6 +168,28 @@ fn finished(alloc: Global, draft: Draft) -> Result<Deck, DeckFault>
         })
     } else {
         Err(REFUSED)
+    }
+}
+
+// Whether each label of a retry stands on a card of some program.
+fn have_labels(programs: &[Program], labels: &HashSet<Name>) -> bool {
+    for program in programs {
+        for line in &program.lines {
+            if !has_label(&line.op, labels) {
+                return false;
+            }
+        }
+    }
+    true
+}
+
+fn has_label(op: &Op, labels: &HashSet<Name>) -> bool {
+    match op {
+        Op::SetRp(setrp) => match setrp.retaddr {
+            None => true,
+            Some(label) => labels.contains(&label),
+        },
+        _ => true,
     }
 }
 
@@ -147,7 +204,11 @@ fn program_names(alloc: Global, cards: &[u8]) -> Result<Vec<Name>, DeckFault>
             if names.len() == MOST_PROGRAMS {
                 return Err(REFUSED);
             }
-            names.push(name_of(fields.name).ok_or(REFUSED)?)?;
+            let name = name_of(fields.name).ok_or(REFUSED)?;
+            if names.contains(&name) {
+                return Err(REFUSED);
+            }
+            names.push(name)?;
         }
     }
     Ok(names)
@@ -171,6 +232,7 @@ fn add_program(alloc: Global, draft: &mut Draft, names: &[Name]) -> Result<(), D
 {
     let name = names.get(draft.programs.len()).copied().ok_or(REFUSED)?;
     let lines = mem::replace(&mut draft.lines, Vec::new(alloc));
+    draft.labels = HashSet::new(alloc);
     draft.programs.push(Program { name, lines })?;
     Ok(())
 }
@@ -195,6 +257,12 @@ fn add_line(draft: &mut Draft, names: &[Name], fields: Fields<'_>) -> Result<(),
     let line = line_of(names, fields).ok_or(REFUSED)?;
     if draft.lines.len() == MOST_LINES {
         return Err(REFUSED);
+    }
+    if let Some(label) = line.label {
+        if !draft.labels.insert(label)? {
+            return Err(REFUSED);
+        }
+        draft.all_labels.insert(label)?;
     }
     draft.lines.extend_from_slice(&[line])?;
     Ok(())

@@ -87,7 +87,7 @@ L2 RETURN
 @2345678 ABEND U7
 L4 ESTAEX CT,PGM=B#$
 L5 SETRP RC=16
- SETRP RETADDR=X
+ SETRP RETADDR=@2345678
  SETRP REMREC=NO
  SETRP RC=0,REMREC=YES
  PEND
@@ -155,7 +155,7 @@ fn two_recoveries_have_their_values(rt: HostRuntime) -> Result<(), Fail> {
 #[test]
 fn comments_and_blank_cards_are_left_out(rt: HostRuntime) -> Result<(), Fail> {
     for cards in [
-        b"* FIRST\n\n  \nMAIN PROG\n*\n NOP\n   \n RETURN\n PEND\n* \x01\nJOB TASK PGM=MAIN\n END\n*\n".as_slice(),
+        b"* FIRST\n\n  \nMAIN PROG\n*\n NOP\n   \n RETURN\n PEND\n* LAST BUT ONE\nJOB TASK PGM=MAIN\n END\n*\n".as_slice(),
         b"MAIN PROG\n NOP\n RETURN\n PEND\nJOB TASK PGM=MAIN\n END",
         b"MAIN PROG\n NOP\n RETURN\n PEND\nJOB TASK PGM=MAIN\n END\n* LAST",
     ] {
@@ -232,6 +232,26 @@ fn other_decks_are_refused(rt: HostRuntime) {
         (
             b"M PROG\n NOP REMARK\n PEND\nJOB TASK PGM=M\n END\n",
             "a remark",
+        ),
+        (
+            b"M PROG\n PEND\nM PROG\n PEND\nJOB TASK PGM=M\n END\n",
+            "two programs of one name",
+        ),
+        (
+            b"M PROG\nL NOP\nL NOP\n PEND\nJOB TASK PGM=M\n END\n",
+            "two cards with one label",
+        ),
+        (
+            b"M PROG\n SETRP RETADDR=L\n PEND\nJOB TASK PGM=M\n END\n",
+            "an unknown label",
+        ),
+        (
+            b"* \x7f\nM PROG\n PEND\nJOB TASK PGM=M\n END\n",
+            "a byte that isn't printable, in a comment",
+        ),
+        (
+            b"* 3456789012345678901234567890123456789012345678901234567890123456789012345678901\nM PROG\n PEND\nJOB TASK PGM=M\n END\n",
+            "a comment of 81 bytes",
         ),
         (
             b"M PROG\r\n PEND\r\nJOB TASK PGM=M\r\n END\r\n",

@@ -106,6 +106,12 @@ left_text d kind reg verdict = codes "LEAVE " ++ kind_text kind ++ codes " " ++ 
 abbrev pub done_text : Code → Option Fate → Option Fate → List ℕ
 done_text code to_task to_step = codes "DONE " ++ text_of code ++ posted_text (codes " TASK=") to_task ++ posted_text (codes " STEP=") to_step
 
+abbrev pub arrive_text : ℕ → Fate → List ℕ
+arrive_text cmd fate = codes "ARRIVE " ++ decimal cmd ++ codes " " ++ fate_text fate
+
+abbrev pub begin_text : Code → Bool → List ℕ
+begin_text code dump = codes "BEGIN " ++ text_of code ++ flag_text dump (codes " DUMP")
+
 -- what an entry says
 abbrev pub what_text : DeckView → What → List ℕ
 what_text d (Exec at rc) = codes "EXEC " ++ place_text d at ++ codes " RC=" ++ decimal rc
@@ -113,8 +119,8 @@ what_text d (Error at mark) = codes "ERROR " ++ place_text d at ++ codes " " ++ 
 what_text d (Land class from mark) = land_text class from mark
 what_text d (Enter kind reg mark) = enter_text kind reg mark
 what_text d (Leave kind reg verdict logrec dump) = left_text d kind reg verdict ++ flag_text logrec (codes " LOGREC") ++ flag_text dump (codes " DUMP")
-what_text d (Arrive cmd fate) = codes "ARRIVE " ++ decimal cmd ++ codes " " ++ fate_text fate
-what_text d (Begin code dump) = codes "BEGIN " ++ text_of code ++ flag_text dump (codes " DUMP")
+what_text d (Arrive cmd fate) = arrive_text cmd fate
+what_text d (Begin code dump) = begin_text code dump
 what_text d (Release class id owner) = codes "RELEASE " ++ res_text class ++ codes " " ++ decimal id ++ codes " " ++ unit_text d owner
 what_text d (Done code to_task to_step) = done_text code to_task to_step
 what_text d (Purge unit) = codes "PURGE " ++ unit_text d unit

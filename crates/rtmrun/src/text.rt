@@ -4,7 +4,7 @@ ghost use Rattle.std.specs.Prelude.{◌≡◌, ◌++◌, ◌<◌, ◌≤◌, ◌
 ghost use Rattle.std.specs.List.{AllByRecursion};
 ghost use Rattle.rtm_codes.specs.Code.{IsInRange, text_of};
 ghost use Rattle.rtm_model.specs.Fitting.{HasCodesInRange, HasEntryCodesInRange};
-ghost use Rattle.rtmrun.specs.Text.{unit_text, program_in, land_text, enter_text, left_text, done_text, place_text, reason_text, mark_text, kind_text, class_text, res_text, fate_text, posted_text, verdict_text, what_text, line_text, lines_text, end_text, trace_text};
+ghost use Rattle.rtmrun.specs.Text.{unit_text, program_in, land_text, enter_text, left_text, done_text, arrive_text, begin_text, place_text, reason_text, mark_text, kind_text, class_text, res_text, fate_text, posted_text, verdict_text, what_text, line_text, lines_text, end_text, trace_text};
 
 use crate::push;
 use rtm_codes::{Code, NoMemory};
@@ -229,6 +229,48 @@ fn push_done(
     push_posted(out, b" STEP=", to_step)
 }
 
+fn push_leave(
+    out: &mut Vec<u8>,
+    deck: &Deck,
+    routine: (Kind, u32),
+    verdict: Verdict,
+    flags: (bool, bool),
+) -> Result<(), NoMemory>
+    ensures { OnOk result (out.new.items ≡ out.old.items
+        ++ what_text deck.now (What.Leave routine.0 routine.1 verdict flags.0 flags.1)) }
+{
+    let (kind, reg) = routine;
+    let (logrec, dump) = flags;
+    push_left(out, deck, kind, reg, verdict)?;
+    push::flag(out, logrec, b" LOGREC")?;
+    push::flag(out, dump, b" DUMP")
+}
+
+fn push_arrive(out: &mut Vec<u8>, cmd: u8, fate: Fate) -> Result<(), NoMemory>
+    ensures { OnOk result (out.new.items ≡ out.old.items ++ arrive_text cmd fate) }
+{
+    push::bytes(out, b"ARRIVE ")?;
+    push::number(out, u64::from(cmd))?;
+    push::bytes(out, b" ")?;
+    push_fate(out, fate)
+}
+
+fn push_begin(out: &mut Vec<u8>, code: Code, dump: bool) -> Result<(), NoMemory>
+    requires { IsInRange code }
+    ensures { OnOk result (out.new.items ≡ out.old.items ++ begin_text code dump) }
+{
+    push::bytes(out, b"BEGIN ")?;
+    push::code(out, code)?;
+    push::flag(out, dump, b" DUMP")
+}
+
+fn push_purge(out: &mut Vec<u8>, deck: &Deck, unit: u16) -> Result<(), NoMemory>
+    ensures { OnOk result (out.new.items ≡ out.old.items ++ what_text deck.now (What.Purge unit)) }
+{
+    push::bytes(out, b"PURGE ")?;
+    push_unit(out, deck, unit)
+}
+
 /// Puts what an entry says.
 pub fn push_what(out: &mut Vec<u8>, deck: &Deck, what: What) -> Result<(), NoMemory>
     requires { HasCodesInRange what }
@@ -245,32 +287,16 @@ pub fn push_what(out: &mut Vec<u8>, deck: &Deck, what: What) -> Result<(), NoMem
             verdict,
             logrec,
             dump,
-        } => {
-            push_left(out, deck, kind, reg, verdict)?;
-            push::flag(out, logrec, b" LOGREC")?;
-            push::flag(out, dump, b" DUMP")
-        }
-        What::Arrive { cmd, fate } => {
-            push::bytes(out, b"ARRIVE ")?;
-            push::number(out, u64::from(cmd))?;
-            push::bytes(out, b" ")?;
-            push_fate(out, fate)
-        }
-        What::Begin { code, dump } => {
-            push::bytes(out, b"BEGIN ")?;
-            push::code(out, code)?;
-            push::flag(out, dump, b" DUMP")
-        }
+        } => push_leave(out, deck, (kind, reg), verdict, (logrec, dump)),
+        What::Arrive { cmd, fate } => push_arrive(out, cmd, fate),
+        What::Begin { code, dump } => push_begin(out, code, dump),
         What::Release { class, id, owner } => push_release(out, deck, class, id, owner),
         What::Done {
             code,
             to_task,
             to_step,
         } => push_done(out, code, to_task, to_step),
-        What::Purge { unit } => {
-            push::bytes(out, b"PURGE ")?;
-            push_unit(out, deck, unit)
-        }
+        What::Purge { unit } => push_purge(out, deck, unit),
         What::MemEnd => push::bytes(out, b"MEMEND"),
     }
 }
