@@ -5,3 +5,4 @@ pub mod Advance
 pub mod History
 pub mod Sound
 pub mod Fitting
+pub mod Chains

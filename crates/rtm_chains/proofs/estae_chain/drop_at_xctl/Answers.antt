@@ -1,0 +1,8 @@
+use Rattle.std.proofs.Common.{not, ◌||◌, rules}
+use Rattle.std.proofs.lemmas.Fn.{filter_same}
+use Rattle.rtm_model.specs.declared.reg.Reg.{Reg}
+use Rattle.rtm_model.specs.Chains.{is_of_owner}
+use Rattle.rtm_chains.proofs.estae_chain.drop_at_xctl.Goals as goal
+
+pub returns-clause-items : goal.returns-clause-items
+returns-clause-items c = filter_same _ (λ (reg : Reg). not (is_of_owner c.args.owner reg) || reg.xctl) _ (λ x b f' s. search rules) _ _ c.retain.ensures.filtered

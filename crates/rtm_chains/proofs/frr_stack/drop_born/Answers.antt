@@ -1,0 +1,7 @@
+use Rattle.std.proofs.Common.{◌==◌, not, rules}
+use Rattle.arrayvec.proofs.ArrayVecLemmas.{filter-from_retain}
+use Rattle.rtm_model.specs.declared.reg.Reg.{Reg}
+use Rattle.rtm_chains.proofs.frr_stack.drop_born.Goals as goal
+
+pub returns-clause-items : goal.returns-clause-items
+returns-clause-items c = filter-from_retain _ (λ (reg : Reg). not (reg.born == c.args.born)) _ (λ x b f' y s. search rules) _ _ c.retain.ensures.filtered

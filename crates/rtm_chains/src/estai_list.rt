@@ -1,0 +1,86 @@
+ghost use Rattle.std.specs.Prelude.{◌≡◌, ◌≤◌, ◌==◌, not, [], length, filter, vec_capacity, IfOk};
+ghost use Rattle.rtm_model.specs.Chains.{next_estai, inherited, without_born};
+
+use crate::routine::{self, Routine};
+use rtm_codes::NoMemory;
+use rtm_model::Reg;
+use std::alloc::Global;
+use std::marker::Model;
+
+/// At most this many ESTAI routines of a task: one for it and for each of its ancestors but the job step task, of 64 units
+/// (this profile).
+const MOST_ESTAIS: usize = 63;
+
+/// The ESTAI routines of a task (Assembler Services Reference, ATTACHX), at most 63 (this profile).
+///
+/// A contract sees the list as its routines, that of the nearest attacher first. A routine's birth is the index of the
+/// entry whose ATTACHX named it, and those who inherit it have it under the same birth.
+#[derive(Drop)]
+pub struct EstaiList {
+    list: Vec<Routine>,
+}
+
+impl Model for EstaiList {
+    ghost use Rattle.std.specs.Prelude.{◌≤◌, List, vec_capacity};
+    ghost use Rattle.rtm_model.specs.declared.reg.Reg.{Reg};
+
+    ghost Value = { List Reg };
+
+    ghost view = { λ a. a.list.items };
+
+    ghost invariant = { λ a. 63 ≤ vec_capacity a.list };
+}
+
+fn drop_born(list: &mut Vec<Routine>, born: u32)
+    ensures items { list.new.items ≡ filter (λ reg. not (reg.born == born)) list.old.items }
+    ensures capacity { vec_capacity list.new ≡ vec_capacity list.old }
+{
+    list.retain(|routine| !routine.is_born_at(born));
+}
+
+impl EstaiList {
+    /// A list with no routine, and room for 63.
+    pub fn with_room(alloc: Global) -> Result<EstaiList, NoMemory>
+        ensures { IfOk result (λ list. list ≡ []) }
+    {
+        Ok(EstaiList {
+            list: Vec::with_capacity(alloc, MOST_ESTAIS)?,
+        })
+    }
+
+    /// The routines of a task at its birth, in a list that has none yet: its own first, if its ATTACHX names one, and then
+    /// those of its mother, which keeps them.
+    pub fn inherit(&mut self, mother: &EstaiList, own: Option<Reg>)
+        requires empty { self.old ≡ [] }
+        requires room { length (inherited own mother.now) ≤ 63 }
+        ensures { self.new ≡ inherited own mother.now }
+    {
+        if let Some(reg) = own {
+            self.list.push_reserved(Routine { reg });
+        }
+        if self.list.extend_from_slice(&mother.list).is_err() {
+            unreachable!("there is room for 63");
+        }
+    }
+
+    /// The routine that gets control next: the first, of those with TERM=YES alone where `term_only`.
+    pub fn next(&self, term_only: bool) -> Option<Reg>
+        ensures { result ≡ next_estai term_only self.now }
+    {
+        routine::reg_of(routine::next_estai(&self.list, term_only))
+    }
+
+    /// Takes the routine away that was born at that entry, if it is there.
+    pub fn left(&mut self, born: u32)
+        ensures { self.new ≡ without_born born self.old }
+    {
+        drop_born(&mut self.list, born);
+    }
+
+    /// A routine has asked for a stop, or the task has begun to end: all its routines go.
+    pub fn stop(&mut self)
+        ensures { self.new ≡ [] }
+    {
+        self.list.clear();
+    }
+}
