@@ -1,6 +1,8 @@
-pub mod Name
 pub mod View
-pub mod Fits
-pub mod Reading
-pub mod Canon
-pub mod Thin
+pub mod Roles
+pub mod Seen
+pub mod References
+pub mod Operations
+pub mod Building
+pub mod Reader
+pub mod Refusal

@@ -1,17 +1,36 @@
--- A deck as plain data: what contracts see of it, with lists in the place of vectors.
-use Rattle.std.specs.Prelude.{ℕ, List}
-use Rattle.rtm_deck.specs.declared.deck.Line.{Line}
-use Rattle.rtm_deck.specs.declared.deck.Unit.{Unit as UnitCard}
-use Rattle.rtm_deck.specs.declared.deck.Command.{Command}
+-- What contracts see of a card that was read.
+use Rattle.std.specs.Prelude.{ℕ, Bool, List, Option}
+use Rattle.rtm_operands.specs.declared.value.Value.{Value}
+use Rattle.rtm_items.specs.declared.form.CardForm.{CardForm}
+use Rattle.rtm_items.specs.declared.why.Why.{Why}
 
--- a program's name, padded with blanks, and its cards
-pub record ProgramView : Type 0 where
-  pub name : List ℕ
-  pub lines : List Line
+-- a card that was read: its number, its name with its padding, its form and the values of its operands
+pub record ReadView : Type 0 where
+  pub number : ℕ
+  pub name : Option (List ℕ)
+  pub form : CardForm
+  pub values : List (Option Value)
 
--- a deck: the limit of entries, and programs, units and commands in the order of their cards
-pub record DeckView : Type 0 where
-  pub limit : ℕ
-  pub programs : List ProgramView
-  pub units : List UnitCard
-  pub commands : List Command
+-- the names that stand on the cards so far, and what the next card may be
+pub record SeenView : Type 0 where
+  pub started : Bool
+  pub inside : Bool
+  pub oper : Bool
+  pub ended : Bool
+  pub programs : List (List ℕ)
+  pub units : List (List ℕ)
+  pub tasks : List (List ℕ)
+  pub srbs : List (List ℕ)
+  pub commands : ℕ
+  pub own : List (List ℕ)
+  pub labels : List (List ℕ)
+
+-- the cards that were read, and what was seen on them
+pub record ScanView : Type 0 where
+  pub reads : List ReadView
+  pub seen : SeenView
+
+-- a refusal: the number of the card, and what is wrong with it
+pub record Refusal : Type 0 where
+  pub card : ℕ
+  pub why : Why

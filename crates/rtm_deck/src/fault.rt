@@ -1,54 +1,50 @@
+//! Why no deck was read.
+
 ghost use Rattle.std.specs.Prelude.{◌≡◌};
 ghost use Rattle.rtm_deck.specs.declared.fault.DeckFault.TheVariants.{Memory};
 
+use rtm_cards::CardFault;
 use rtm_codes::NoMemory;
+use rtm_items::Why;
 use std::alloc::{AllocError, AllocFailed};
 
-/// What is wrong with a card, in the order in which the faults of one card are looked for (this profile).
-#[derive(Clone, Copy, Debug, PartialEq, Eq, Hash)]
-pub enum Why {
-    TooLong,
-    BadByte,
-    BadCard,
-    UnknownOp,
-    BadOperand,
-    DuplicateName,
-    UnknownName,
-    UnknownLabel,
-    WrongPlace,
-    NoJobStep,
-    NoEnd,
-    OverLimit,
-}
-
-/// Why no deck was read: want of memory, or a card that may not stand so.
-#[derive(Clone, Copy, Debug, PartialEq, Eq, Hash)]
+/// Why no deck was read.
+#[derive(Clone, Copy, Debug, PartialEq, Eq)]
 pub enum DeckFault {
+    /// Memory ran out.
     Memory,
-    /// Cards are counted from 1. Card 0 with `WrongPlace` is a deck that can't be run yet.
+    /// The number of the card, counted from 1 over all cards, and what is wrong with it.
     Refused { card: u32, why: Why },
 }
 
 impl From<AllocError> for DeckFault {
-    ghost from_gives = { λ _ e. e ≡ Memory };
+    ghost from_gives = { λ _ fault. fault ≡ Memory };
 
-    fn from(_: AllocError) -> DeckFault {
+    fn from(_error: AllocError) -> DeckFault {
         DeckFault::Memory
     }
 }
 
 impl<T: Drop> From<AllocFailed<T>> for DeckFault {
-    ghost from_gives = { λ _ e. e ≡ Memory };
+    ghost from_gives = { λ _ fault. fault ≡ Memory };
 
-    fn from(_: AllocFailed<T>) -> DeckFault {
+    fn from(_error: AllocFailed<T>) -> DeckFault {
+        DeckFault::Memory
+    }
+}
+
+impl From<CardFault> for DeckFault {
+    ghost from_gives = { λ _ fault. fault ≡ Memory };
+
+    fn from(_error: CardFault) -> DeckFault {
         DeckFault::Memory
     }
 }
 
 impl From<NoMemory> for DeckFault {
-    ghost from_gives = { λ _ e. e ≡ Memory };
+    ghost from_gives = { λ _ fault. fault ≡ Memory };
 
-    fn from(_: NoMemory) -> DeckFault {
+    fn from(_error: NoMemory) -> DeckFault {
         DeckFault::Memory
     }
 }

@@ -1,21 +1,24 @@
-//! The deck: programs, units and operator commands, and the cards that spell them.
+//! Reads a deck from its cards, or names its first fault.
 #![tactic(auto)]
 
-mod deck;
+mod build;
+mod card;
 mod fault;
-mod fits;
-mod name;
-mod names;
-mod op;
+mod find;
+mod laws;
+mod operation;
 mod reading;
-mod text;
+mod reference;
+mod role;
+mod seen;
 
-pub use deck::{Command, Deck, Line, Program, Unit, UnitKind};
-pub use fault::{DeckFault, Why};
-pub use name::Name;
-pub use op::{Op, Res, Setrp, Three};
+pub use fault::DeckFault;
+pub use laws::{canonical_texts_are_read_back, each_input_is_a_deck_or_has_a_fault};
 pub use reading::read_deck;
-pub use text::deck_text;
+pub use rtm_canon::deck_text;
+pub use rtm_items::{
+    CardForm, Command, Deck, Line, Name, Op, Program, Res, Setrp, Three, Unit, UnitKind, Why,
+};
 
 #[cfg(test)]
 mod tests;

@@ -1,380 +1,196 @@
-ghost use Rattle.std.specs.Prelude.{◌≡◌, ◌++◌, IfOk, OnOk, IfErr};
-ghost use Rattle.rtm_deck.specs.Canon.{canon, cards_only, is_comment, is_blank_card, kept_text};
-ghost use Rattle.rtm_deck.specs.Thin.{IsThinFault};
+//! Reading a deck.
 
-use crate::deck::{Deck, Line, Program, Unit, UnitKind};
-use crate::fault::{DeckFault, Why};
-use crate::fits::{DEFAULT_LIMIT, MOST_LINES, MOST_PROGRAMS, deck_fits};
-use crate::name::Name;
-use crate::names::name_of;
-use crate::op::{Op, Setrp};
-use crate::text::deck_text;
-use rtm_codes::{NoMemory, read_code};
+ghost use Rattle.std.specs.Prelude.{◌≡◌, ◌<◌, ◌^◌, [], ℕ, Option, Some, None, Result, Ok, Err, map, length, IfOk, IfErr};
+ghost use Rattle.std.specs.List.{AllByRecursion};
+ghost use Rattle.rtm_cards.specs.Cards.{card_text, HasSpansIn, IsCardOf};
+ghost use Rattle.rtm_items.specs.Spelling.{DeckText};
+ghost use Rattle.rtm_items.specs.declared.why.Why.{Why};
+ghost use Rattle.rtm_items.specs.Faults.{IsFirstFault, why_of_cut};
+ghost use Rattle.rtm_items.specs.View.{DeckView};
+ghost use Rattle.rtm_deck.specs.Refusal.{IsRefusalOf, IsThatDeck, IsThatRefusal};
+ghost use Rattle.rtm_deck.specs.Seen.{fresh};
+ghost use Rattle.rtm_deck.specs.References.{first_nameless};
+ghost use Rattle.rtm_deck.specs.Building.{deck_of};
+ghost use Rattle.rtm_deck.specs.Reader.{Gives, scan, why_unended, named, resolved, judged, read_cards};
+
+use crate::build::{Parts, build};
+use crate::card::{Read, read_card};
+use crate::fault::DeckFault;
+use crate::find::find_names;
+use crate::role::role_of;
+use crate::seen::Seen;
+use rtm_cards::{Card, Cut, CutFault, CutWhy, cut_cards};
+use rtm_items::{Deck, Why};
 use std::alloc::Global;
-use std::collections::HashSet;
-use std::mem;
+use std::marker::Model;
 
-/// What is answered for every deck that isn't read yet.
-const REFUSED: DeckFault = DeckFault::Refused {
-    card: 0,
-    why: Why::WrongPlace,
-};
-
-/// At most this many cards are read, comments and blank cards among them (this profile).
-const MOST_CARDS: usize = 10_000;
-
-/// At most this many bytes a card has (this profile).
-const MOST_BYTES: usize = 80;
-
-/// The fields of a card: its name or label, the operation, and the operands.
-#[derive(Clone, Copy)]
-struct Fields<'a> {
-    name: &'a [u8],
-    operation: &'a [u8],
-    operands: &'a [u8],
-}
-
-/// The programs and units of the cards that were read so far, with the cards since the last PEND and their labels, and
-/// the labels of all cards.
+/// The cards that were read, and what was seen on them.
 #[derive(Drop)]
-struct Draft {
-    programs: Vec<Program>,
-    lines: Vec<Line>,
-    labels: HashSet<Name>,
-    all_labels: HashSet<Name>,
-    units: Vec<Unit>,
+struct Scan {
+    reads: Vec<Read>,
+    seen: Seen,
 }
 
-/// Reads a deck. This state of the reader is thin: it reads the decks whose cards are in canonical
-/// form, as `deck_text` writes them, and are PROG, PEND, one TASK, END, NOP, RETURN, ABEND with a
-/// code, ESTAEX CT with PGM= alone, and SETRP with RC=, RETADDR= and REMREC=.
-///
-/// Comments and blank cards may stand anywhere, and the last card needs no line feed. Each card has at
-/// most 80 bytes of 32 to 126, and there are at most 10,000. Every other deck is refused as card 0 with
-/// `WrongPlace`, among them those in which two programs, or two cards of one program, have one name, or
-/// in which the label of a retry stands on no card.
-pub fn read_deck(alloc: Global, bytes: &[u8]) -> Result<Deck, DeckFault>
-    ensures found { IfOk result (λ deck. cards_only bytes.now ≡ canon deck) }
-    ensures refused { IfErr result IsThinFault }
+impl Model for Scan {
+    ghost use Rattle.rtm_deck.specs.View.{ScanView};
+
+    ghost Value = { ScanView };
+
+    ghost view = { λ a. record { reads = a.reads.items; seen = a.seen } };
+}
+
+/// Reads the cards one after the other, up to the first that breaks a rule of form.
+fn scan_cards(alloc: Global, bytes: &[u8], cards: &[Card]) -> Result<Scan, DeckFault>
+    requires spans { AllByRecursion (HasSpansIn bytes.now) cards.now }
+    requires few { length cards.now < 2 ^ 30 }
+    ensures { Gives (λ a b. a ≡ b) result (scan [] fresh (map (card_text bytes.now) cards.now)) }
 {
-    if !has_plain_cards(bytes) {
-        return Err(REFUSED);
+    let mut reads = Vec::new(alloc);
+    let mut seen = Seen::new(alloc);
+    'cards: for card in cards {
+        match read_card(&seen, bytes, card) {
+            Err(why) => {
+                return Err(DeckFault::Refused {
+                    card: card.number,
+                    why,
+                });
+            }
+            Ok(read) => {
+                seen.add(role_of(read.form), &read.name)?;
+                reads.push(read)?;
+            }
+        }
     }
-    let cards = cards_text(alloc, bytes)?;
-    let deck = drafted_deck(alloc, &cards)?;
-    let text = deck_text(alloc, &deck)?;
-    if text == cards {
-        Ok(deck)
+    Ok(Scan { reads, seen })
+}
+
+/// The fault where no END stands.
+fn why_unended(seen: &Seen) -> Why
+    ensures { result ≡ why_unended seen.now }
+{
+    if seen.tasks.is_empty() {
+        Why::NoJobStep
     } else {
-        Err(REFUSED)
+        Why::NoEnd
     }
 }
 
-// Whether each card has at most 80 bytes, all of them printable, and there are at most 10,000 cards, comments and blank
-// cards among them.
-fn has_plain_cards(bytes: &[u8]) -> bool {
-    let mut cards = 0;
-    for card in bytes.split(|byte| *byte == b'\n') {
-        // Behind the last line feed there is no card.
-        if cards > MOST_CARDS {
-            return false;
-        }
-        cards += 1;
-        if card.len() > MOST_BYTES || !card.iter().all(|byte| (32..=126).contains(byte)) {
-            return false;
-        }
-    }
-    cards <= MOST_CARDS || bytes.last() == Some(&b'\n')
-}
-
-// The cards without comments and blank cards, each with a line feed.
-fn cards_text(alloc: Global, bytes: &[u8]) -> Result<Vec<u8>, NoMemory>
-    ensures { IfOk result (λ cards. cards.items ≡ cards_only bytes.now) }
+/// The deck of cards whose names are all there, but for want of memory.
+fn built(alloc: Global, scan: &Scan) -> Result<Parts, DeckFault>
+    ensures { Gives (λ a b. a ≡ b) result (Ok (deck_of scan.now)) }
 {
-    let mut cards = Vec::new(alloc);
-    let mut line = Vec::new(alloc);
-    for byte in bytes {
-        if *byte == b'\n' {
-            push_kept(&mut cards, &line)?;
-            line.clear();
-        } else {
-            line.push(*byte)?;
-        }
-    }
-    push_kept(&mut cards, &line)?;
-    Ok(cards)
-}
-
-fn push_kept(cards: &mut Vec<u8>, line: &[u8]) -> Result<(), NoMemory>
-    ensures { OnOk result (cards.new.items ≡ cards.old.items ++ kept_text line.now) }
-{
-    if is_comment(line) || is_blank_card(line) {
-        return Ok(());
-    }
-    cards.extend_from_slice(line)?;
-    cards.push(b'\n')?;
-    Ok(())
-}
-
-fn is_comment(line: &[u8]) -> bool
-    ensures { result ≡ is_comment line.now }
-{
-    match line.split_first() {
-        None => false,
-        Some((first, _)) => *first == b'*',
+    match build(alloc, &scan.seen, &scan.reads) {
+        Err(_) => Err(DeckFault::Memory),
+        Ok(parts) => Ok(parts),
     }
 }
 
-fn is_blank_card(line: &[u8]) -> bool
-    ensures { result ≡ is_blank_card line.now }
+/// The deck, where each name is there.
+fn named(alloc: Global, scan: &Scan) -> Result<Parts, DeckFault>
+    ensures { Gives (λ a b. a ≡ b) result (named scan.now (first_nameless scan.now.seen [] scan.now.reads)) }
 {
-    line.iter().all(|byte| *byte == b' ')
-}
-
-// A deck that may have these cards, and surely no other that fits has them. A card at a wrong place
-// is found when the deck's text is compared with the cards.
-fn drafted_deck(alloc: Global, cards: &[u8]) -> Result<Deck, DeckFault>
-    ensures { IfErr result IsThinFault }
-{
-    let names = program_names(alloc, cards)?;
-    let mut draft = Draft {
-        programs: Vec::new(alloc),
-        lines: Vec::new(alloc),
-        labels: HashSet::new(alloc),
-        all_labels: HashSet::new(alloc),
-        units: Vec::new(alloc),
-    };
-    for card in cards.split(|byte| *byte == b'\n') {
-        add_card(alloc, &mut draft, &names, card)?;
+    match find_names(alloc, &scan.seen, &scan.reads) {
+        Err(fault) => Err(fault),
+        Ok(()) => built(alloc, scan),
     }
-    finished(alloc, draft)
 }
 
-fn finished(alloc: Global, draft: Draft) -> Result<Deck, DeckFault>
-    ensures { IfErr result IsThinFault }
+/// The deck of cards that break no rule of form, where that many lines are there.
+fn resolved(alloc: Global, lines: u32, scan: &Scan) -> Result<Parts, DeckFault>
+    requires { lines < 2 ^ 31 }
+    ensures { Gives (λ a b. a ≡ b) result (resolved lines scan.now) }
 {
-    let Draft {
-        programs,
-        units,
-        all_labels,
-        ..
-    } = draft;
-    if have_labels(&programs, &all_labels) && deck_fits(&programs, &units) {
-        Ok(Deck {
-            limit: DEFAULT_LIMIT,
-            programs,
-            units,
-            commands: Vec::new(alloc),
+    if scan.seen.ended {
+        named(alloc, scan)
+    } else {
+        Err(DeckFault::Refused {
+            card: lines + 1,
+            why: why_unended(&scan.seen),
         })
-    } else {
-        Err(REFUSED)
     }
 }
 
-// Whether each label of a retry stands on a card of some program.
-fn have_labels(programs: &[Program], labels: &HashSet<Name>) -> bool {
-    for program in programs {
-        for line in &program.lines {
-            if !has_label(&line.op, labels) {
-                return false;
-            }
-        }
-    }
-    true
-}
-
-fn has_label(op: &Op, labels: &HashSet<Name>) -> bool {
-    match op {
-        Op::SetRp(setrp) => match setrp.retaddr {
-            None => true,
-            Some(label) => labels.contains(&label),
-        },
-        _ => true,
-    }
-}
-
-// The names of all programs, so that a card may name a program behind it.
-fn program_names(alloc: Global, cards: &[u8]) -> Result<Vec<Name>, DeckFault>
-    ensures { IfErr result IsThinFault }
+/// The fault of a rule of cutting.
+fn why_of_cut(why: CutWhy) -> Why
+    ensures { result ≡ why_of_cut why }
 {
-    let mut names = Vec::new(alloc);
-    for card in cards.split(|byte| *byte == b'\n') {
-        let fields = fields_of(card);
-        if fields.operation == b"PROG".as_slice() {
-            if names.len() == MOST_PROGRAMS {
-                return Err(REFUSED);
-            }
-            let name = name_of(fields.name).ok_or(REFUSED)?;
-            if names.contains(&name) {
-                return Err(REFUSED);
-            }
-            names.push(name)?;
-        }
+    match why {
+        CutWhy::TooLong => Why::TooLong,
+        CutWhy::OverLimit => Why::OverLimit,
+        CutWhy::BadByte => Why::BadByte,
+        CutWhy::BadCard => Why::BadCard,
     }
-    Ok(names)
 }
 
-fn add_card(alloc: Global, draft: &mut Draft, names: &[Name], card: &[u8]) -> Result<(), DeckFault>
-    ensures { IfErr result IsThinFault }
+/// The deck of cards that break no rule of form, or the fault of cutting behind them.
+fn judged(
+    alloc: Global,
+    lines: u32,
+    fault: Option<CutFault>,
+    scan: &Scan,
+) -> Result<Parts, DeckFault>
+    requires { lines < 2 ^ 31 }
+    ensures { Gives (λ a b. a ≡ b) result (judged lines fault (Ok scan.now)) }
 {
-    let fields = fields_of(card);
-    match fields.operation {
-        b"" | b"PROG" | b"END" => Ok(()),
-        b"PEND" => add_program(alloc, draft, names),
-        b"TASK" => add_unit(draft, names, fields),
-        _ => add_line(draft, names, fields),
+    match fault {
+        None => resolved(alloc, lines, scan),
+        Some(fault) => Err(DeckFault::Refused {
+            card: fault.card,
+            why: why_of_cut(fault.why),
+        }),
     }
 }
 
-// The program that ends here, whose name is known by the number of those before it.
-fn add_program(alloc: Global, draft: &mut Draft, names: &[Name]) -> Result<(), DeckFault>
-    ensures { IfErr result IsThinFault }
+/// The deck that the cards before the fault of cutting spell, or the first fault.
+fn read_cards(
+    alloc: Global,
+    bytes: &[u8],
+    cards: &[Card],
+    lines: u32,
+    fault: Option<CutFault>,
+) -> Result<Parts, DeckFault>
+    requires spans { AllByRecursion (HasSpansIn bytes.now) cards.now }
+    requires few { length cards.now < 2 ^ 30 }
+    requires counted { lines < 2 ^ 31 }
+    ensures { Gives (λ a b. a ≡ b) result (read_cards (map (card_text bytes.now) cards.now) lines fault) }
 {
-    let name = names.get(draft.programs.len()).copied().ok_or(REFUSED)?;
-    let lines = mem::replace(&mut draft.lines, Vec::new(alloc));
-    draft.labels = HashSet::new(alloc);
-    draft.programs.push(Program { name, lines })?;
-    Ok(())
+    match scan_cards(alloc, bytes, cards) {
+        Err(fault) => Err(fault),
+        Ok(scan) => judged(alloc, lines, fault, &scan),
+    }
 }
 
-fn add_unit(draft: &mut Draft, names: &[Name], fields: Fields<'_>) -> Result<(), DeckFault>
-    ensures { IfErr result IsThinFault }
+/// The deck that the bytes spell, or their first fault.
+fn read_bytes(alloc: Global, bytes: &[u8]) -> Result<Deck, DeckFault>
+    ensures found { IfOk result (λ deck. DeckText bytes.now deck) }
+    ensures refused { IfErr result (IsRefusalOf bytes.now) }
 {
-    let name = name_of(fields.name).ok_or(REFUSED)?;
-    let prog = pgm_of(names, fields.operands).ok_or(REFUSED)?;
-    draft.units.push(Unit {
-        name,
-        kind: UnitKind::Task,
-        prog,
-        related: None,
-    })?;
-    Ok(())
-}
-
-fn add_line(draft: &mut Draft, names: &[Name], fields: Fields<'_>) -> Result<(), DeckFault>
-    ensures { IfErr result IsThinFault }
-{
-    let line = line_of(names, fields).ok_or(REFUSED)?;
-    if draft.lines.len() == MOST_LINES {
-        return Err(REFUSED);
-    }
-    if let Some(label) = line.label {
-        if !draft.labels.insert(label)? {
-            return Err(REFUSED);
-        }
-        draft.all_labels.insert(label)?;
-    }
-    draft.lines.extend_from_slice(&[line])?;
-    Ok(())
-}
-
-fn fields_of(card: &[u8]) -> Fields<'_> {
-    let (name, rest) = cut(card, b' ');
-    let (operation, operands) = cut(rest, b' ');
-    Fields {
-        name,
-        operation,
-        operands,
-    }
-}
-
-// What stands before the first such byte, and what stands behind it.
-fn cut(text: &[u8], separator: u8) -> (&[u8], &[u8]) {
-    match text.iter().position(|byte| *byte == separator) {
-        None => (text, &[]),
-        Some(index) => {
-            let (front, back) = text.split_at(index);
-            (front, &back[1..])
-        }
-    }
-}
-
-fn line_of(names: &[Name], fields: Fields<'_>) -> Option<Line> {
-    let op = op_of(names, fields.operation, fields.operands)?;
-    if fields.name.is_empty() {
-        return Some(Line { label: None, op });
-    }
-    let label = name_of(fields.name)?;
-    Some(Line {
-        label: Some(label),
-        op,
-    })
-}
-
-fn op_of(names: &[Name], operation: &[u8], operands: &[u8]) -> Option<Op> {
-    match operation {
-        b"NOP" => Some(Op::Nop),
-        b"RETURN" => Some(Op::Return),
-        b"ABEND" => abend_of(operands),
-        b"ESTAEX" => estaex_of(names, operands),
-        b"SETRP" => setrp_of(operands),
-        _ => None,
-    }
-}
-
-fn abend_of(operands: &[u8]) -> Option<Op> {
-    let code = read_code(operands)?;
-    Some(Op::Abend {
-        code,
-        reason: None,
-        dump: false,
-        step: false,
-    })
-}
-
-fn estaex_of(names: &[Name], operands: &[u8]) -> Option<Op> {
-    let prog = pgm_of(names, operands.strip_prefix(b"CT,")?)?;
-    Some(Op::EstaexCt {
-        prog,
-        term: false,
-        cancel: true,
-        xctl: false,
-    })
-}
-
-fn setrp_of(operands: &[u8]) -> Option<Op> {
-    let mut setrp = Setrp {
-        rc: None,
-        retaddr: None,
-        remrec: None,
-        compcod: None,
-        reason: None,
-        dump: None,
-        logrec: None,
-        fresdwa: None,
+    let cut = match cut_cards(alloc, bytes) {
+        Err(_) => return Err(DeckFault::Memory),
+        Ok(cut) => cut,
     };
-    for operand in operands.split(|byte| *byte == b',') {
-        let (key, value) = cut(operand, b'=');
-        match key {
-            b"RC" => setrp.rc = Some(rc_of(value)?),
-            b"RETADDR" => setrp.retaddr = Some(name_of(value)?),
-            b"REMREC" => setrp.remrec = Some(flag_of(value)?),
-            _ => return None,
-        }
-    }
-    Some(Op::SetRp(setrp))
-}
-
-fn rc_of(value: &[u8]) -> Option<u8> {
-    match value {
-        b"0" => Some(0),
-        b"4" => Some(4),
-        b"16" => Some(16),
-        _ => None,
+    match read_cards(alloc, bytes, &cut.cards, cut.lines, cut.fault) {
+        Err(fault) => Err(fault),
+        Ok(parts) => Ok(Deck {
+            limit: parts.limit,
+            programs: parts.programs,
+            units: parts.units,
+            commands: parts.commands,
+        }),
     }
 }
 
-fn flag_of(value: &[u8]) -> Option<bool> {
-    match value {
-        b"YES" => Some(true),
-        b"NO" => Some(false),
-        _ => None,
-    }
-}
+/// Reads a deck, or names its first fault (this profile).
+///
+/// A card with a fault of form comes before a missing END, and that before a name or label that isn't there; in one card
+/// the faults are looked for in the order that docs/CARDS.md gives. The other error is want of memory.
+pub fn read_deck(alloc: Global, bytes: &[u8]) -> Result<Deck, DeckFault>
+    ensures found { IfOk result (λ deck. DeckText bytes.now deck) }
+    ensures refused { IfErr result (IsRefusalOf bytes.now) }
 
-// The number of the program that PGM= names.
-fn pgm_of(names: &[Name], operand: &[u8]) -> Option<u16> {
-    let wanted = name_of(operand.strip_prefix(b"PGM=")?)?;
-    let index = names.iter().position(|name| *name == wanted)?;
-    u16::try_from(index).ok()
+    // What is spelled is read, and a fault is named, but for want of memory.
+    ensures spelled { (d : DeckView) → DeckText bytes.now d → IsThatDeck d result }
+    ensures fault { (card : ℕ) (why : Why) → IsFirstFault bytes.now card why → IsThatRefusal card why result }
+{
+    read_bytes(alloc, bytes)
 }

@@ -5,11 +5,11 @@ use Rattle.std.specs.List.{AllByRecursion}
 use Rattle.std.proofs.lemmas.Bool.{eqb-true, leb-false}
 use Rattle.rtm_codes.specs.declared.code.Code.{Code}
 use Rattle.rtm_codes.specs.Code.{IsInRange}
-use Rattle.rtm_deck.specs.declared.op.Op.{Op}
-use Rattle.rtm_deck.specs.declared.op.Op.TheVariants as ops
-use Rattle.rtm_deck.specs.View.{DeckView}
-use Rattle.rtm_deck.specs.Fits.{fits}
-use Rattle.rtm_deck.specs.Reading.{op_at}
+use Rattle.rtm_items.specs.declared.op.Op.{Op}
+use Rattle.rtm_items.specs.declared.op.Op.TheVariants as ops
+use Rattle.rtm_items.specs.View.{DeckView}
+use Rattle.rtm_model.specs.Runs.{runs}
+use Rattle.rtm_items.specs.Reading.{op_at}
 use Rattle.rtm_model.specs.declared.block.Place.{Place}
 use Rattle.rtm_model.specs.declared.block.Bracket.{Bracket}
 use Rattle.rtm_model.specs.declared.entry.What.{What}
@@ -89,18 +89,18 @@ can_carded d w b n (ops.SetRp setrp) e h =
 can_carded d w b n _ e h = tt
 
 -- no error is open
-can_go_on : (d : DeckView) (w : Core) (b : Bracket) → IsTrue (fits d) → (begun : Option Code) → IfSome begun IsInRange → CanOption d w (going_on d w b begun)
+can_go_on : (d : DeckView) (w : Core) (b : Bracket) → IsTrue (runs d) → (begun : Option Code) → IfSome begun IsInRange → CanOption d w (going_on d w b begun)
 can_go_on d w b f (Some code) h = h
 can_go_on d w b f None h = can_carded d w b (length d.programs) (op_at d b.block.place.prog b.block.place.op) refl (read_at d f b.block.place.prog b.block.place.op)
 
-can_in : (d : DeckView) (w : Core) (b : Bracket) → IsTrue (fits d) → IsSound w → (e : Option ErrorRecord) → IfSome e (λ r. IsInRange r.code) → CanOption d w (next_in d w b e)
+can_in : (d : DeckView) (w : Core) (b : Bracket) → IsTrue (runs d) → IsSound w → (e : Option ErrorRecord) → IfSome e (λ r. IsInRange r.code) → CanOption d w (next_in d w b e)
 can_in d w b f s (Some r) h = can_handled d w r b.routine s h (next_estae (depth_of w.brackets) w.estaes) refl
 can_in d w b f s None h = can_go_on d w b f w.begun s.begun
 
-can_at : (d : DeckView) (w : Core) → IsTrue (fits d) → IsSound w → (bs : List Bracket) → AllByRecursion HasCodeInRange bs → CanOption d w (next_at d w (first_of bs))
+can_at : (d : DeckView) (w : Core) → IsTrue (runs d) → IsSound w → (bs : List Bracket) → AllByRecursion HasCodeInRange bs → CanOption d w (next_at d w (first_of bs))
 can_at d w f s [] h = tt
 can_at d w f s (b ∷ bs) h = can_in d w b f s b.error h.0
 
 -- what a unit makes next can be applied
-pub can_next : (d : DeckView) (w : Core) → IsTrue (fits d) → IsSound w → CanOption d w (next_unit d w)
+pub can_next : (d : DeckView) (w : Core) → IsTrue (runs d) → IsSound w → CanOption d w (next_unit d w)
 can_next d w f s = can_if d w w.done None (next_at d w (first_of w.brackets)) tt (can_at d w f s w.brackets s.codes)

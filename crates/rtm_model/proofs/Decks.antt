@@ -6,13 +6,13 @@ use Rattle.std.proofs.lemmas.Bool.{leb-true}
 use Rattle.rtm_codes.specs.declared.code.Code.{Code}
 use Rattle.rtm_codes.specs.declared.code.Code.TheVariants.{Sys, User}
 use Rattle.rtm_codes.specs.Code.{IsInRange}
-use Rattle.rtm_deck.specs.declared.deck.Line.{Line}
-use Rattle.rtm_deck.specs.declared.op.Op.{Op}
-use Rattle.rtm_deck.specs.declared.op.Op.TheVariants.{Return, Abend, SetRp}
-use Rattle.rtm_deck.specs.declared.op.Setrp.{Setrp}
-use Rattle.rtm_deck.specs.View.{ProgramView, DeckView}
-use Rattle.rtm_deck.specs.Fits.{fits, program_fits, op_fits, is_abend_code, units_fit}
-use Rattle.rtm_deck.specs.Reading.{lines_in, op_in, op_at}
+use Rattle.rtm_items.specs.declared.deck.Line.{Line}
+use Rattle.rtm_items.specs.declared.op.Op.{Op}
+use Rattle.rtm_items.specs.declared.op.Op.TheVariants.{Return, Abend, SetRp}
+use Rattle.rtm_items.specs.declared.op.Setrp.{Setrp}
+use Rattle.rtm_items.specs.View.{ProgramView, DeckView}
+use Rattle.rtm_model.specs.Runs.{runs, program_fits, op_fits, is_abend_code, units_fit}
+use Rattle.rtm_items.specs.Reading.{lines_in, op_in, op_at}
 use Rattle.rtm_model.proofs.Lists.{both_true, at_from_list_all, below_length}
 
 -- an operation that stands in the deck is one that is read, and has a next number; behind the last card all is RETURN
@@ -21,11 +21,11 @@ pub record IsRead (programs op : ℕ) (what : Op) : Type 0 where
   pub bound : (what ≡ Return) ⊎ (op < 65535)
 
 -- the deck's programs fit
-pub programs_fit : (d : DeckView) → IsTrue (fits d) → IsTrue (list_all (program_fits (length d.programs)) d.programs)
+pub programs_fit : (d : DeckView) → IsTrue (runs d) → IsTrue (list_all (program_fits (length d.programs)) d.programs)
 programs_fit d h =
     let abcd = (both_true _ (length d.commands == 0) h).0 in
     let abc = (both_true _ (units_fit (length d.programs) d.units) abcd).0 in
-    (both_true ((d.limit == 20000) && nat_le (length d.programs) 256) (list_all (program_fits (length d.programs)) d.programs) abc).1
+    (both_true (nat_le d.limit 100000 && nat_le (length d.programs) 256) (list_all (program_fits (length d.programs)) d.programs) abc).1
 
 in_lines : (n op : ℕ) (lines : List Line) → length lines ≤ 10000 → IsTrue (list_all (λ line. op_fits n line.op) lines) → (o : Option Line) → slice_get lines (op - 1) ≡ o → IsRead n op (op_in o)
 in_lines n op lines short all None e = record { fits = refl; bound = inl refl }
@@ -34,14 +34,14 @@ in_lines n op lines short all (Some line) e = record {
   bound = inr (omega (arith, below_length lines (op - 1) line e));
 }
 
-in_program : (d : DeckView) → IsTrue (fits d) → (prog op : ℕ) (o : Option ProgramView) → slice_get d.programs prog ≡ o → IsRead (length d.programs) op (op_in (slice_get (lines_in o) (op - 1)))
+in_program : (d : DeckView) → IsTrue (runs d) → (prog op : ℕ) (o : Option ProgramView) → slice_get d.programs prog ≡ o → IsRead (length d.programs) op (op_in (slice_get (lines_in o) (op - 1)))
 in_program d h prog op None e = record { fits = refl; bound = inl refl }
 in_program d h prog op (Some p) e =
     let both = both_true (nat_le (length p.lines) 10000) (list_all (λ (line : Line). op_fits (length d.programs) line.op) p.lines) (at_from_list_all (program_fits (length d.programs)) d.programs prog p (programs_fit d h) e) in
     in_lines (length d.programs) op p.lines (leb-true _ _ both.0) both.1 (slice_get p.lines (op - 1)) refl
 
 -- what stands at an operation of a deck that fits is read
-pub read_at : (d : DeckView) → IsTrue (fits d) → (prog op : ℕ) → IsRead (length d.programs) op (op_at d prog op)
+pub read_at : (d : DeckView) → IsTrue (runs d) → (prog op : ℕ) → IsRead (length d.programs) op (op_at d prog op)
 read_at d h prog op = in_program d h prog op (slice_get d.programs prog) refl
 
 -- an ABEND's code is in range

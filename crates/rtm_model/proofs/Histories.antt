@@ -2,8 +2,8 @@
 use Rattle.std.proofs.Common.{◌≡◌, ℕ, suc, ◌+◌, ◌<◌, Bool, true, false, ◌&&◌, List, [], ◌∷◌, ◌++◌, length, Some, None, refl, sym, ap, subst, ◌∙◌, arith}
 use Rattle.std.specs.Prelude.{IsTrue, if◌then◌else◌, ◌==◌, not}
 use Rattle.std.specs.List.{AllByRecursion}
-use Rattle.rtm_deck.specs.View.{DeckView}
-use Rattle.rtm_deck.specs.Fits.{fits}
+use Rattle.rtm_items.specs.View.{DeckView}
+use Rattle.rtm_model.specs.Runs.{runs}
 use Rattle.rtm_model.specs.declared.entry.Entry.{Entry}
 use Rattle.rtm_model.specs.declared.entry.What.{What}
 use Rattle.rtm_model.specs.declared.entry.What.TheVariants as whats
@@ -11,31 +11,31 @@ use Rattle.rtm_model.specs.Unit.{Core}
 use Rattle.rtm_model.specs.Next.{next_unit}
 use Rattle.rtm_model.specs.Advance.{advance_unit, CanApply}
 use Rattle.rtm_model.specs.History.{World, start, next, next_master, advance, world_from, world, LegalFrom, Legal, master}
-use Rattle.rtm_deck.specs.Reading.{job_step_program}
+use Rattle.rtm_items.specs.Reading.{program_of}
 use Rattle.rtm_model.specs.Sound.{IsSound}
 use Rattle.rtm_model.specs.Fitting.{HasCodesInRange, HasEntryCodesInRange}
 use Rattle.rtm_model.proofs.CanNext.{CanOption, can_next}
 use Rattle.rtm_model.proofs.Keeps.{advance_kept, born_sound}
 
 -- the first unit's entry can be applied
-pub can_apply : (d : DeckView) (w : Core) (what : What) → IsTrue (fits d) → IsSound w → next_unit d w ≡ Some what → CanApply d w what
+pub can_apply : (d : DeckView) (w : Core) (what : What) → IsTrue (runs d) → IsSound w → next_unit d w ≡ Some what → CanApply d w what
 can_apply d w what f s e = subst (CanOption d w) e (can_next d w f s)
 
 -- one legal entry keeps the world sound
-step_sound : (d : DeckView) (w : World) (n : ℕ) (e : Entry) (first : Bool) → IsTrue (fits d) → IsSound w.unit
+step_sound : (d : DeckView) (w : World) (n : ℕ) (e : Entry) (first : Bool) → IsTrue (runs d) → IsSound w.unit
     → (if first then next_unit d w.unit else if e.unit == master d then next_master w else None) ≡ Some e.what
     → IsSound (World.unit (if first then record w { unit = advance_unit d n w.unit e.what } else record w { over = true }))
 step_sound d w n e true f s h = advance_kept d n w.unit e.what s (can_apply d w.unit e.what f s h)
 step_sound d w n e false f s h = s
 
-sound_from : (d : DeckView) (w : World) (n : ℕ) (es : List Entry) → IsTrue (fits d) → IsSound w.unit → LegalFrom d w n es → IsSound (World.unit (world_from d w n es))
+sound_from : (d : DeckView) (w : World) (n : ℕ) (es : List Entry) → IsTrue (runs d) → IsSound w.unit → LegalFrom d w n es → IsSound (World.unit (world_from d w n es))
 sound_from d w n [] f s h = s
 sound_from d w n (e ∷ es) f s h = sound_from d (advance d w n e) (n + 1) es f (step_sound d w n e (e.unit == 0) f s h.1) h.2
 
 -- the world after a legal history is sound
-pub world_sound : (d : DeckView) (es : List Entry) → IsTrue (fits d) → Legal d es → IsSound (World.unit (world d es))
+pub world_sound : (d : DeckView) (es : List Entry) → IsTrue (runs d) → Legal d es → IsSound (World.unit (world d es))
 unfolding world Legal
-world_sound d es f h = sound_from d (start d) 0 es f (born_sound (job_step_program d)) h
+world_sound d es f h = sound_from d (start d) 0 es f (born_sound (program_of d 0)) h
 
 -- ---- one more entry
 
@@ -84,17 +84,17 @@ master_codes true true what e = let same : whats.MemEnd ≡ what = cc in subst H
 master_codes true false what e = absurd cc
 master_codes false ends what e = absurd cc
 
-step_codes : (d : DeckView) (w : World) (u : ℕ) (what : What) (first : Bool) → IsTrue (fits d) → IsSound w.unit
+step_codes : (d : DeckView) (w : World) (u : ℕ) (what : What) (first : Bool) → IsTrue (runs d) → IsSound w.unit
     → (if first then next_unit d w.unit else if u == master d then next_master w else None) ≡ Some what → HasCodesInRange what
 step_codes d w u what true f s h = codes_of d w.unit what (can_apply d w.unit what f s h)
 step_codes d w u what false f s h = master_codes (u == master d) (w.unit.done && not w.over) what h
 
-codes_from : (d : DeckView) (w : World) (n : ℕ) (es : List Entry) → IsTrue (fits d) → IsSound w.unit → LegalFrom d w n es → AllByRecursion HasEntryCodesInRange es
+codes_from : (d : DeckView) (w : World) (n : ℕ) (es : List Entry) → IsTrue (runs d) → IsSound w.unit → LegalFrom d w n es → AllByRecursion HasEntryCodesInRange es
 codes_from d w n [] f s h = tt
 codes_from d w n (e ∷ es) f s h =
     (step_codes d w e.unit e.what (e.unit == 0) f s h.1, codes_from d (advance d w n e) (n + 1) es f (step_sound d w n e (e.unit == 0) f s h.1) h.2)
 
 -- each code that a legal history shows is in range
-pub legal_codes : (d : DeckView) (es : List Entry) → IsTrue (fits d) → Legal d es → AllByRecursion HasEntryCodesInRange es
+pub legal_codes : (d : DeckView) (es : List Entry) → IsTrue (runs d) → Legal d es → AllByRecursion HasEntryCodesInRange es
 unfolding Legal
-legal_codes d es f h = codes_from d (start d) 0 es f (born_sound (job_step_program d)) h
+legal_codes d es f h = codes_from d (start d) 0 es f (born_sound (program_of d 0)) h

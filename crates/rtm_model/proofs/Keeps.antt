@@ -5,11 +5,11 @@ use Rattle.std.specs.Option.{option_map, unwrap_or}
 use Rattle.std.specs.List.{AllByRecursion}
 use Rattle.rtm_codes.specs.declared.code.Code.{Code}
 use Rattle.rtm_codes.specs.Code.{IsInRange}
-use Rattle.rtm_deck.specs.declared.op.Op.{Op}
-use Rattle.rtm_deck.specs.declared.op.Op.TheVariants as ops
-use Rattle.rtm_deck.specs.declared.op.Setrp.{Setrp}
-use Rattle.rtm_deck.specs.View.{DeckView}
-use Rattle.rtm_deck.specs.Reading.{op_at}
+use Rattle.rtm_items.specs.declared.op.Op.{Op}
+use Rattle.rtm_items.specs.declared.op.Op.TheVariants as ops
+use Rattle.rtm_items.specs.declared.op.Setrp.{Setrp}
+use Rattle.rtm_items.specs.View.{DeckView}
+use Rattle.rtm_items.specs.Reading.{op_at}
 use Rattle.rtm_model.specs.declared.block.Place.{Place}
 use Rattle.rtm_model.specs.declared.block.Bracket.{Bracket}
 use Rattle.rtm_model.specs.declared.entry.What.{What}

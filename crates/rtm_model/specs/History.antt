@@ -1,7 +1,7 @@
 -- Histories: what lives after one, which are legal, how one ends, and the one that a single thread makes (this profile).
 use Rattle.std.specs.Prelude.{◌≡◌, ℕ, zero, suc, ◌+◌, ◌<◌, Bool, true, false, not, ◌&&◌, ◌||◌, ◌==◌, nat_le, if◌then◌else◌, List, [], ◌∷◌, length, Option, Some, None, is_some}
-use Rattle.rtm_deck.specs.View.{DeckView}
-use Rattle.rtm_deck.specs.Reading.{job_step_program}
+use Rattle.rtm_items.specs.View.{DeckView}
+use Rattle.rtm_items.specs.Reading.{program_of}
 use Rattle.rtm_model.specs.declared.entry.Entry.{Entry}
 use Rattle.rtm_model.specs.declared.entry.End.{End}
 use Rattle.rtm_model.specs.declared.entry.End.TheVariants.{Ended, Stalled, Limit}
@@ -22,7 +22,7 @@ master d = length d.units
 
 -- what lives before the first entry: the first task is the job step task, and lives from the start
 abbrev pub start : DeckView → World
-start d = record { unit = core_of (job_step_program d); over = false }
+start d = record { unit = core_of (program_of d 0); over = false }
 
 -- the master's next entry: memory end, once the job step task has ended
 abbrev pub next_master : World → Option What

@@ -6,3 +6,4 @@ pub mod History
 pub mod Sound
 pub mod Fitting
 pub mod Chains
+pub mod Runs

@@ -2,10 +2,10 @@
 use Rattle.std.specs.Prelude.{ℕ, Bool, true, false, not, ◌&&◌, nat_le, if◌then◌else◌, List, length, Option, Some, None}
 use Rattle.rtm_codes.specs.declared.code.Code.{Code}
 use Rattle.rtm_codes.specs.declared.code.Code.TheVariants.{Sys}
-use Rattle.rtm_deck.specs.declared.op.Op.{Op}
-use Rattle.rtm_deck.specs.declared.op.Op.TheVariants.{Nop, Return, Abend, EstaexCt, SetRp}
-use Rattle.rtm_deck.specs.View.{DeckView}
-use Rattle.rtm_deck.specs.Reading.{op_at}
+use Rattle.rtm_items.specs.declared.op.Op.{Op}
+use Rattle.rtm_items.specs.declared.op.Op.TheVariants.{Nop, Return, Abend, EstaexCt, SetRp}
+use Rattle.rtm_items.specs.View.{DeckView}
+use Rattle.rtm_items.specs.Reading.{op_at}
 use Rattle.rtm_model.specs.declared.block.Place.{Place}
 use Rattle.rtm_model.specs.declared.block.Bracket.{Bracket}
 use Rattle.rtm_model.specs.declared.entry.What.{What}

@@ -3,11 +3,11 @@
 use Rattle.std.specs.Prelude.{ℕ, Bool, true, false, not, ◌&&◌, ◌==◌, if◌then◌else◌, Option, Some, None, is_some}
 use Rattle.std.specs.Option.{unwrap_or, option_map, option_and_then}
 use Rattle.rtm_codes.specs.declared.code.Code.{Code}
-use Rattle.rtm_deck.specs.declared.op.Setrp.{Setrp}
-use Rattle.rtm_deck.specs.declared.op.Three.{Three}
-use Rattle.rtm_deck.specs.declared.op.Three.TheVariants.{Yes, No, Ignore}
-use Rattle.rtm_deck.specs.View.{DeckView}
-use Rattle.rtm_deck.specs.Reading.{label_at}
+use Rattle.rtm_items.specs.declared.op.Setrp.{Setrp}
+use Rattle.rtm_operands.specs.declared.value.Three.{Three}
+use Rattle.rtm_operands.specs.declared.value.Three.TheVariants.{Yes, No, Ignore}
+use Rattle.rtm_items.specs.View.{DeckView}
+use Rattle.rtm_items.specs.Reading.{label_at}
 use Rattle.rtm_model.specs.declared.block.Place.{Place}
 use Rattle.rtm_model.specs.declared.entry.Verdict.{Verdict}
 use Rattle.rtm_model.specs.declared.entry.Verdict.TheVariants.{Retry, Perc, Stop, Bad}

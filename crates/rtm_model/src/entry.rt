@@ -2,7 +2,7 @@ use crate::block::Place;
 use crate::mark::Mark;
 use crate::reg::Kind;
 use rtm_codes::Code;
-use rtm_deck::Res;
+use rtm_items::Res;
 
 /// The class of an abort that comes from outside of the unit (this profile).
 #[derive(Clone, Copy, Debug, PartialEq, Eq)]

@@ -1,5 +1,5 @@
 use rtm_codes::Code;
-use rtm_deck::Name;
+use rtm_items::Name;
 
 /// The ten flags of an error's record (this profile, after the SDWA of MVS Data Areas).
 #[derive(Clone, Copy, Debug, PartialEq, Eq)]

@@ -1,4 +1,4 @@
-use rtm_deck::Res;
+use rtm_items::Res;
 
 /// A resource that a unit holds since the entry `born`; its number is 0 to 999999.
 #[derive(Clone, Copy, Debug, PartialEq, Eq)]

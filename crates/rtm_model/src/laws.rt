@@ -2,8 +2,8 @@
 
 ghost use Rattle.std.specs.Prelude.{◌≡◌, ◌+◌, ◌<◌, ◌++◌, ◌∷◌, [], List, length, Some, IsTrue};
 ghost use Rattle.std.specs.List.{AllByRecursion};
-ghost use Rattle.rtm_deck.specs.View.{DeckView};
-ghost use Rattle.rtm_deck.specs.Fits.{fits};
+ghost use Rattle.rtm_items.specs.View.{DeckView};
+ghost use Rattle.rtm_model.specs.Runs.{runs};
 ghost use Rattle.rtm_model.specs.declared.entry.Entry.{Entry};
 ghost use Rattle.rtm_model.specs.Fitting.{HasEntryCodesInRange};
 ghost use Rattle.rtm_model.specs.History.{World, world, next, advance, Legal};
@@ -11,12 +11,12 @@ ghost use Rattle.rtm_model.specs.Sound.{IsSound};
 
 /// After every legal history the control blocks are within their limits, and their codes are in range.
 pub fn legal_histories_are_sound()
-    ensures { (d : DeckView) (h : List Entry) → IsTrue (fits d) → Legal d h → IsSound (World.unit (world d h)) }
+    ensures { (d : DeckView) (h : List Entry) → IsTrue (runs d) → Legal d h → IsSound (World.unit (world d h)) }
 {}
 
 /// Each code that a legal history shows is in range.
 pub fn legal_histories_show_codes_in_range()
-    ensures { (d : DeckView) (h : List Entry) → IsTrue (fits d) → Legal d h → AllByRecursion HasEntryCodesInRange h }
+    ensures { (d : DeckView) (h : List Entry) → IsTrue (runs d) → Legal d h → AllByRecursion HasEntryCodesInRange h }
 {}
 
 /// The next entry of its unit makes another legal history of a legal one, below the limit.

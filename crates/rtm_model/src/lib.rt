@@ -17,4 +17,4 @@ pub use error_record::{ErrorRecord, RecordFlags};
 pub use holding::{Holding, Manager1};
 pub use mark::Mark;
 pub use reg::{Full, Kind, Reg};
-pub use rtm_deck::Res;
+pub use rtm_items::Res;

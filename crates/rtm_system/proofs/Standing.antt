@@ -3,9 +3,9 @@ use Rattle.std.proofs.Common.{◌≡◌, ℕ, ◌<◌, ◌≤◌, Bool, true, fa
 use Rattle.std.specs.Prelude.{IsTrue, nat_le, ◌≢◌, ◌==◌, if◌then◌else◌}
 use Rattle.std.specs.List.{list_all}
 use Rattle.std.proofs.lemmas.Bool.{eqb-true, eq-eqb, ne_eqb}
-use Rattle.rtm_deck.specs.View.{DeckView}
-use Rattle.rtm_deck.specs.Fits.{fits, program_fits, units_fit}
-use Rattle.rtm_deck.specs.Reading.{job_step_program}
+use Rattle.rtm_items.specs.View.{DeckView}
+use Rattle.rtm_model.specs.Runs.{runs, program_fits, units_fit}
+use Rattle.rtm_items.specs.Reading.{program_of}
 use Rattle.rtm_model.specs.declared.entry.Entry.{Entry}
 use Rattle.rtm_model.specs.declared.entry.What.{What}
 use Rattle.rtm_model.specs.Unit.{Core, core_of}
@@ -17,15 +17,7 @@ use Rattle.rtm_model.proofs.Histories.{can_apply, world_sound, world-append, Leg
 use Rattle.rtm_model.specs.Sound.{IsSound}
 use Rattle.rtm_system.specs.View.{SystemView, StandsFor}
 
--- a deck's history has at most 20000 entries so far
-pub limit_of : (d : DeckView) → IsTrue (fits d) → d.limit ≡ 20000
-limit_of d h =
-    let abcd = (both_true _ (length d.commands == 0) h).0 in
-    let abc = (both_true _ (units_fit (length d.programs) d.units) abcd).0 in
-    let ab = (both_true _ (list_all (program_fits (length d.programs)) d.programs) abc).0 in
-    eqb-true _ _ (both_true (d.limit == 20000) (nat_le (length d.programs) 256) ab).0
-
-pub starts : (d : DeckView) (unit : Core) (trace : List Entry) (room : ℕ) → IsTrue (fits d) → unit ≡ core_of (job_step_program d) → trace ≡ [] → d.limit ≤ room → StandsFor d unit false trace room
+pub starts : (d : DeckView) (unit : Core) (trace : List Entry) (room : ℕ) → IsTrue (runs d) → unit ≡ core_of (program_of d 0) → trace ≡ [] → d.limit ≤ room → StandsFor d unit false trace room
 starts d unit trace room f u t r =
     subst (λ (h : List Entry). StandsFor d unit false h room) (sym t)
     (subst (λ (c : Core). StandsFor d c false [] room) (sym u) (record { fits = f; world_is = world-nil d; legal = Legal-nil d; room_is = r }))

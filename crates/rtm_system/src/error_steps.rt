@@ -5,7 +5,7 @@ ghost use Rattle.std.specs.Option.{option_map_or};
 ghost use Rattle.rtm_model.specs.Record.{no_flags, fresh, mark_of, set_by, setrp_in, asked_nothing, percolated, after_failure, retry_place, verdict};
 
 use rtm_codes::Code;
-use rtm_deck::{Deck, Setrp, Three};
+use rtm_items::{Deck, Setrp, Three};
 use rtm_model::{ErrorRecord, Kind, Mark, Place, RecordFlags, Verdict};
 
 /// No flag stands.

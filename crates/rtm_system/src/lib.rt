@@ -2,10 +2,12 @@
 #![tactic(auto)]
 
 mod error_steps;
+mod runs;
 mod room;
 mod stepped;
 mod system;
 mod unit_state;
 
+pub use runs::is_run;
 pub use stepped::Stepped;
 pub use system::System;

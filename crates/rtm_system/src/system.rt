@@ -1,7 +1,7 @@
 //! The system: a deck's control blocks, and the trace that it has made.
 
 ghost use Rattle.std.specs.Prelude.{◌≡◌, ◌≢◌, ◌≤◌, ◌<◌, ◌++◌, ◌∷◌, [], length, IsTrue, IfOk};
-ghost use Rattle.rtm_deck.specs.Fits.{fits};
+ghost use Rattle.rtm_model.specs.Runs.{runs};
 ghost use Rattle.std.specs.List.{AllByRecursion};
 ghost use Rattle.rtm_model.specs.Fitting.{HasEntryCodesInRange};
 ghost use Rattle.rtm_model.specs.History.{next, next_master, goes_on, end_in, end_of, world, advance, Legal};
@@ -11,7 +11,7 @@ use crate::room;
 use crate::stepped::Stepped;
 use crate::unit_state::UnitState;
 use rtm_codes::NoMemory;
-use rtm_deck::Deck;
+use rtm_items::Deck;
 use rtm_model::{End, Entry, What};
 use std::alloc::Global;
 use std::marker::Model;
@@ -68,11 +68,13 @@ fn end_after(deck: &Deck, state: &UnitState, over: bool, entries: usize) -> Opti
 }
 
 impl System {
-    /// A system at its start, with all the memory that a run of the deck takes.
+    /// A system at its start, with all the memory that a run of the deck takes. The deck is one that is run so far, as
+    /// `is_run` says.
     pub fn new(alloc: Global, deck: Deck) -> Result<System, NoMemory>
+        requires { IsTrue (runs deck) }
         ensures { IfOk result (λ system. (system.deck ≡ deck) × (system.trace ≡ [])) }
     {
-        let unit = UnitState::new(alloc, deck.job_step_program())?;
+        let unit = UnitState::new(alloc, deck.program_of(0))?;
         let trace = Vec::with_capacity(alloc, deck.entry_limit() as usize)?;
         Ok(System {
             deck,
@@ -85,7 +87,7 @@ impl System {
     /// The deck that runs.
     pub fn deck(&self) -> &Deck
         ensures value { result.now ≡ self.now.deck }
-        ensures fits { IsTrue (fits self.now.deck) }
+        ensures runs { IsTrue (runs self.now.deck) }
     {
         &self.deck
     }

@@ -1,7 +1,7 @@
 //! A unit's control blocks: its brackets, its ESTAE routines, and whether it has begun to end.
 
 ghost use Rattle.std.specs.Prelude.{◌≡◌, false, ◌<◌, ◌≤◌, ◌+◌, ◌-◌, length, reverse, Option, Some, None, IfOk};
-ghost use Rattle.rtm_deck.specs.declared.op.Op.{Op};
+ghost use Rattle.rtm_items.specs.declared.op.Op.{Op};
 ghost use Rattle.rtm_model.specs.Unit.{core_of, first_of, second_of, depth_of, next_estae, born_at};
 ghost use Rattle.rtm_model.specs.Record.{setrp_in, percolated, after_failure};
 ghost use Rattle.rtm_model.specs.Next.{next_unit, next_at, next_in, going_on, carded, handled, unhandled, left, judged, judged_in, returned, create_at, in_routine, error_at};
@@ -10,7 +10,7 @@ ghost use Rattle.rtm_model.specs.Advance.{advance_unit, carried_out, moved, ente
 use crate::error_steps::{self, NO_FLAGS};
 use crate::room;
 use rtm_codes::{Code, NoMemory};
-use rtm_deck::{Deck, Op, Setrp};
+use rtm_items::{Deck, Op, Setrp};
 use rtm_model::{Block, Bracket, ErrorRecord, Kind, Place, Reg, Verdict, What};
 use std::alloc::Global;
 use std::marker::Model;

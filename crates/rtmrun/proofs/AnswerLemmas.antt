@@ -1,20 +1,95 @@
--- What is to be written of what a source had left.
-use Rattle.std.proofs.Common.{◌≡◌, ℕ, List, [], Option, Some, None, Result, Ok, Err, refl, sym, subst}
-use Rattle.std.specs.Prelude.{IfSome, IfOk}
+-- What is to be written of an input that is too long.
+use Rattle.std.proofs.Common.{◌≡◌, ℕ, zero, suc, ◌+◌, ◌-◌, ◌<◌, ◌≤◌, List, [], ◌∷◌, length, take, Option, Some, None, Result, Ok, Err, refl, sym, ap, subst, ◌∙◌, inl, cond, arith}
+use Rattle.std.specs.Prelude.{IfSome, IfOk, count_by, ◌==◌}
+use Rattle.std.proofs.lemmas.List.Sums.{sum_by-cons}
+use Rattle.rtm_io.specs.Input.{IsInFault, IsTooLong, line_at}
+use Rattle.rtm_io.specs.declared.input.InFault.{InFault}
+use Rattle.rtm_io.specs.declared.input.InFault.TheVariants.{TooLong}
+use Rattle.rtm_cards.specs.Limits.{max_bytes}
+use Rattle.rtm_cards.specs.Lines.{number_at}
+use Rattle.rtm_items.specs.declared.why.Why.TheVariants as whys
+use Rattle.rtm_items.specs.Faults.{IsFirstFault}
 use Rattle.rtmrun.specs.declared.answer.Answer.{Answer}
+use Rattle.rtmrun.specs.declared.request.Request.{Request}
+use Rattle.rtmrun.specs.declared.request.Request.TheVariants as requests
 use Rattle.rtmrun.specs.declared.outcome.Status.{Status}
 use Rattle.rtmrun.specs.declared.outcome.Status.TheVariants as status
-use Rattle.rtmrun.specs.Answer.{IsAnswer, IsAnswerOf, refusal_text}
+use Rattle.rtmrun.specs.Answer.{IsAnswer, IsAnswerOf, IsRefusalOf, refusal_text}
 
--- some bytes that the source may have had left
-told_bytes : (left : Option (List ℕ)) → (bytes : List ℕ) × IfSome left (λ told. bytes ≡ told)
-told_bytes None = ([], tt)
-told_bytes (Some bytes) = (bytes, refl)
+-- the card of a byte is one more than the line feeds before it
+number_is : (bytes : List ℕ) (i : ℕ) → number_at bytes i ≡ line_at bytes i
+unfolding number_at
+number_is bytes i = omega arith
+
+-- so many line feeds, and so many other bytes and one more
+sample : ℕ → ℕ → List ℕ
+sample zero zero = 65 ∷ []
+sample zero (suc others) = 65 ∷ sample zero others
+sample (suc feeds) others = 10 ∷ sample feeds others
+
+sample-length : (feeds others : ℕ) → length (sample feeds others) ≡ feeds + others + 1
+unfolding sample
+sample-length zero zero = refl
+sample-length zero (suc others) = omega (arith, sample-length zero others)
+sample-length (suc feeds) others = omega (arith, sample-length feeds others)
+
+-- the first of its bytes, but for the last, hold all the line feeds
+abbrev feed : ℕ → ℕ
+feed byte = cond (byte == 10) 1 0
+
+sample-feeds : (feeds others n : ℕ) → n ≡ feeds + others → count_by (λ byte. byte == 10) (take n (sample feeds others)) ≡ feeds
+unfolding sample
+sample-feeds zero zero zero e = refl
+sample-feeds zero zero (suc n) e = absurd (omega (arith, e))
+sample-feeds zero (suc others) zero e = absurd (omega (arith, e))
+sample-feeds zero (suc others) (suc n) e =
+    sum_by-cons feed 65 (take n (sample zero others)) ∙ omega (arith, sample-feeds zero others n (omega (arith, e)))
+sample-feeds (suc feeds) others zero e = absurd (omega (arith, e))
+sample-feeds (suc feeds) others (suc n) e =
+    sum_by-cons feed 10 (take n (sample feeds others)) ∙ omega (arith, sample-feeds feeds others n (omega (arith, e)))
+
+-- There are bytes whose first too many, past the limit, is on that line.
+sampled : (limit line : ℕ) → 1 ≤ line → line ≤ limit + 1 → (bytes : List ℕ) × (limit < length bytes) × (line ≡ line_at bytes limit)
+sampled limit line some few =
+    let others = limit - (line - 1) in
+    let many = sample-length (line - 1) others in
+    let feeds = sample-feeds (line - 1) others limit (omega (arith, some, few)) in
+    (sample (line - 1) others, omega (arith, many, some, few), omega (arith, feeds, some))
+
+-- too many bytes, of which the first too many is on that line, have that first fault
+too_long : (bytes : List ℕ) (line : ℕ) → max_bytes < length bytes → line ≡ line_at bytes max_bytes → IsFirstFault bytes line whys.TooLong
+too_long bytes line long e = record {
+  by_size = λ _. (e ∙ sym (number_is bytes max_bytes), refl);
+  by_card = λ few. absurd (omega (arith, long, few));
+}
+
+-- some bytes that the source may have had left, with that first fault
+some_bytes : (left new : Option (List ℕ)) (line : ℕ) → IsTooLong max_bytes left new line
+    → (bytes : List ℕ) × IfSome left (λ told. bytes ≡ told) × IsFirstFault bytes line whys.TooLong
+some_bytes None new line h =
+    let some = sampled max_bytes line h.in_range.0 h.in_range.1 in
+    (some.0, tt, too_long some.0 line some.1 some.2)
+some_bytes (Some told) new line h = (told, refl, too_long told line h.longer h.in_line)
+
+-- the refusal of an input with that first fault is what is to be written
+is_refusal : (request : Request) (bytes text : List ℕ) (card : ℕ) → IsFirstFault bytes card whys.TooLong → text ≡ refusal_text card whys.TooLong
+    → IsAnswer request bytes text status.Deck
+is_refusal requests.Scan bytes text card f e = record { card = card; why = whys.TooLong; fault = f; written = e }
+is_refusal requests.Seq bytes text card f e = inl (record { card = card; why = whys.TooLong; fault = f; written = e })
 
 -- of more bytes than are read
-pub of_refusal : (left : Option (List ℕ)) (r : Result Answer Status) → IfOk r (λ a. a.text.items ≡ refusal_text) → IfOk r (λ a. a.status ≡ status.Deck)
-    → IfOk r (λ a. IsAnswerOf left a.text.items a.status)
-of_refusal left (Ok a) text is_deck =
-    let some = told_bytes left in
-    (some.0, some.1, subst (λ (s : Status). IsAnswer some.0 a.text.items s) (sym is_deck) text)
-of_refusal left (Err e) text is_deck = tt
+of_too_long : (request : Request) (left new : Option (List ℕ)) (line : ℕ) → IsTooLong max_bytes left new line
+    → (r : Result Answer Status) → IfOk r (λ a. a.text.items ≡ refusal_text line whys.TooLong) → IfOk r (λ a. a.status ≡ status.Deck)
+    → IfOk r (λ a. IsAnswerOf request left a.text.items a.status)
+of_too_long request left new line h (Ok a) text is_deck =
+    let some = some_bytes left new line h in
+    (some.0, some.1, subst (λ (s : Status). IsAnswer request some.0 a.text.items s) (sym is_deck) (is_refusal request some.0 a.text.items line some.2 text))
+of_too_long request left new line h (Err e) text is_deck = tt
+
+-- the same of a fault that is that one
+pub of_fault : (request : Request) (left new : Option (List ℕ)) (before now line : ℕ) (fault : InFault) → fault ≡ TooLong line
+    → IsInFault max_bytes left new before now fault
+    → (r : Result Answer Status) → IfOk r (λ a. a.text.items ≡ refusal_text line whys.TooLong) → IfOk r (λ a. a.status ≡ status.Deck)
+    → IfOk r (λ a. IsAnswerOf request left a.text.items a.status)
+of_fault request left new before now line fault e h r text is_deck =
+    of_too_long request left new line (subst (λ (f : InFault). IsInFault max_bytes left new before now f) e h) r text is_deck

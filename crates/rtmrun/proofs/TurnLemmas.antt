@@ -3,9 +3,9 @@ use Rattle.std.proofs.Common.{◌≡◌, ℕ, zero, suc, ◌+◌, ◌-◌, ◌�
 use Rattle.std.specs.Prelude.{IsTrue, nat_le, not, ◌||◌, is_some, is_none, ◌==◌, if◌then◌else◌}
 use Rattle.std.proofs.lemmas.Bool.{eqb-false, leb-false}
 use Rattle.std.proofs.lemmas.List.{append_assoc, append-nil, length-append}
-use Rattle.rtm_deck.specs.declared.deck.Unit.{Unit as UnitCard}
-use Rattle.rtm_deck.specs.View.{DeckView}
-use Rattle.rtm_deck.specs.Fits.{fits, units_fit}
+use Rattle.rtm_items.specs.declared.deck.Unit.{Unit as UnitCard}
+use Rattle.rtm_items.specs.View.{DeckView}
+use Rattle.rtm_model.specs.Runs.{runs, units_fit}
 use Rattle.rtm_model.specs.declared.entry.End.{End}
 use Rattle.rtm_model.specs.declared.entry.End.TheVariants.{Ended, Stalled, Limit}
 use Rattle.rtm_model.specs.declared.entry.Entry.{Entry}
@@ -64,7 +64,7 @@ skips_trace u trace new None none h = h ∙ append-nil trace
 skips_trace u trace new (Some what) none h = absurd cc
 
 -- a deck that is run so far has one unit
-pub one_unit : (d : DeckView) → IsTrue (fits d) → length d.units ≡ 1
+pub one_unit : (d : DeckView) → IsTrue (runs d) → length d.units ≡ 1
 one_unit d h = single d.units (both_true _ (units_fit (length d.programs) d.units) (both_true _ (length d.commands == 0) h).0).1
   where
     single : (units : List UnitCard) → IsTrue (units_fit (length d.programs) units) → length units ≡ 1
@@ -105,7 +105,7 @@ round_at d w (suc zero) m u_in some none = round_at_1 d w m some none
 round_at d w (suc (suc u)) m u_in some none = omega arith
 
 -- where somebody goes on, a round of turns finds an entry
-pub round_finds : (d : DeckView) (trace : List Entry) (u : ℕ) → IsTrue (fits d) → end_of d trace ≡ None → u ≤ length d.units → seq_step d (world d trace) u ≡ None → ⊥
+pub round_finds : (d : DeckView) (trace : List Entry) (u : ℕ) → IsTrue (runs d) → end_of d trace ≡ None → u ≤ length d.units → seq_step d (world d trace) u ≡ None → ⊥
 round_finds d trace u f ends u_in none =
     let one = one_unit d f in
     let going : (is_some (next d (world d trace) 0) || is_some (next d (world d trace) (master d))) ≡ true = GoesOn.going (goes_on_from d (world d trace) (length trace) ends) in
@@ -167,7 +167,7 @@ finds start now new first unit left rest after_unit made t a is_made l after_is 
     makes start.deck w unit rest after_unit (seq_step start.deck w first) start.trace new.trace (next start.deck w unit) refl (sym b.0 ∙ is_made) (ap (turn start.deck w unit) (sym l) ∙ t.rest) b.1 after_is
 
 -- a round in which nobody had an entry can't be
-pub nothing : (start now : SystemView) (first unit left : ℕ) → TurnsLeft start now first unit left → left ≡ 0 → IsTrue (fits start.deck) → first ≤ length start.deck.units → end_of start.deck start.trace ≡ None → ⊥
+pub nothing : (start now : SystemView) (first unit left : ℕ) → TurnsLeft start now first unit left → left ≡ 0 → IsTrue (runs start.deck) → first ≤ length start.deck.units → end_of start.deck start.trace ≡ None → ⊥
 nothing start now first unit left t zero_left f h ends =
     round_finds start.deck start.trace first f ends h (sym t.rest ∙ ap (turn start.deck (world start.deck start.trace) unit) zero_left)
 

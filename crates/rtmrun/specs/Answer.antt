@@ -1,20 +1,31 @@
 -- What the program answers, by its words, and by the bytes that it reads and writes (this profile).
-use Rattle.std.specs.Prelude.{◌≡◌, ℕ, List, [], ◌∷◌, Option, Some, IfSome, IsTrue, codes}
+use Rattle.std.specs.Prelude.{◌≡◌, ◌⊎◌, ℕ, List, [], ◌∷◌, ◌++◌, Option, Some, IfSome, IsTrue, not, codes, decimal}
 use Rattle.rtm_io.specs.Faults.{HasRisen}
 use Rattle.rtm_io.specs.Stream.{Appends, AppendsPrefix}
-use Rattle.rtm_deck.specs.View.{DeckView}
-use Rattle.rtm_deck.specs.Fits.{fits}
-use Rattle.rtm_deck.specs.Canon.{canon, cards_only}
+use Rattle.rtm_items.specs.View.{DeckView}
+use Rattle.rtm_items.specs.Canon.{canon}
+use Rattle.rtm_items.specs.Spelling.{DeckText}
+use Rattle.rtm_items.specs.Faults.{IsFirstFault}
+use Rattle.rtm_items.specs.declared.why.Why.{Why}
+use Rattle.rtm_items.specs.declared.why.Why.TheVariants as whys
+use Rattle.rtm_model.specs.Runs.{runs}
 use Rattle.rtm_model.specs.declared.entry.End.{End}
 use Rattle.rtm_model.specs.declared.entry.End.TheVariants.{Ended, Stalled, Limit}
 use Rattle.rtm_model.specs.History.{end_of, seq}
+use Rattle.rtmrun.specs.declared.request.Request.{Request}
+use Rattle.rtmrun.specs.declared.request.Request.TheVariants as requests
 use Rattle.rtmrun.specs.declared.outcome.Status.{Status}
 use Rattle.rtmrun.specs.declared.outcome.Status.TheVariants as status
 use Rattle.rtmrun.specs.Text.{trace_text}
 
--- the words that are known so far: the one word seq
-abbrev pub IsSeq : List (List ℕ) → Type 0
-IsSeq words = words ≡ codes "seq" ∷ []
+-- the words of each request
+abbrev pub words_of : Request → List (List ℕ)
+words_of requests.Scan = codes "scan" ∷ []
+words_of requests.Seq = codes "seq" ∷ []
+
+-- The words are those of no request.
+abbrev pub AreUnknown : List (List ℕ) → Type 0
+AreUnknown words = (request : Request) → words ≡ words_of request → ⊥
 
 -- the status with which the program ends
 abbrev pub exit_status : Status → ℕ
@@ -36,29 +47,69 @@ status_of Ended = status.Fine
 status_of Stalled = status.Stalled
 status_of Limit = status.AtLimit
 
--- what is written of a deck that is refused
-abbrev pub refusal_text : List ℕ
-refusal_text = codes "DECK 0 WrongPlace\n"
+-- the name of a fault
+abbrev pub why_text : Why → List ℕ
+why_text whys.TooLong = codes "TooLong"
+why_text whys.BadByte = codes "BadByte"
+why_text whys.BadCard = codes "BadCard"
+why_text whys.UnknownOp = codes "UnknownOp"
+why_text whys.BadOperand = codes "BadOperand"
+why_text whys.DuplicateName = codes "DuplicateName"
+why_text whys.UnknownName = codes "UnknownName"
+why_text whys.UnknownLabel = codes "UnknownLabel"
+why_text whys.WrongPlace = codes "WrongPlace"
+why_text whys.NoJobStep = codes "NoJobStep"
+why_text whys.NoEnd = codes "NoEnd"
+why_text whys.OverLimit = codes "OverLimit"
+
+-- what is written of a deck that is refused: the card and its fault
+abbrev pub refusal_text : ℕ → Why → List ℕ
+refusal_text card why = codes "DECK " ++ decimal card ++ codes " " ++ why_text why ++ codes "\n"
 
 -- The text is that of the one history that a single thread makes of the deck, to its end, and the status tells that end.
 abbrev pub IsRun : DeckView → List ℕ → Status → Type 0
 IsRun d text s = (end : End) × (end_of d (seq d) ≡ Some end) × (text ≡ trace_text d (seq d) end) × (s ≡ status_of end)
 
--- The bytes, but for comments and blank cards, are the canonical text of a deck that can be run, and that is its run.
-abbrev pub IsRunOf : List ℕ → List ℕ → Status → Type 0
-IsRunOf bytes text s = (d : DeckView) × IsTrue (fits d) × (cards_only bytes ≡ canon d) × IsRun d text s
+-- The bytes spell a deck, and the text is its canonical text.
+pub record IsScanOf (bytes text : List ℕ) : Type 0 where
+  pub deck : DeckView
+  pub spelled : DeckText bytes deck
+  pub written : text ≡ canon deck
+
+-- The bytes spell a deck that is run so far, and that is its run.
+pub record IsRunOf (bytes text : List ℕ) (s : Status) : Type 0 where
+  pub deck : DeckView
+  pub spelled : DeckText bytes deck
+  pub runs : IsTrue (runs deck)
+  pub run : IsRun deck text s
+
+-- The text names the first fault of the bytes.
+pub record IsRefusalOf (bytes text : List ℕ) : Type 0 where
+  pub card : ℕ
+  pub why : Why
+  pub fault : IsFirstFault bytes card why
+  pub written : text ≡ refusal_text card why
+
+-- The bytes spell a deck that isn't run so far, and the text says so.
+pub record IsUnrun (bytes text : List ℕ) : Type 0 where
+  pub deck : DeckView
+  pub spelled : DeckText bytes deck
+  pub unrun : IsTrue (not (runs deck))
+  pub written : text ≡ refusal_text 0 whys.WrongPlace
 
 -- what is to be written of the bytes that were read, and the status
-abbrev pub IsAnswer : List ℕ → List ℕ → Status → Type 0
-IsAnswer bytes text status.Deck = text ≡ refusal_text
-IsAnswer bytes text status.Fine = IsRunOf bytes text status.Fine
-IsAnswer bytes text status.Stalled = IsRunOf bytes text status.Stalled
-IsAnswer bytes text status.AtLimit = IsRunOf bytes text status.AtLimit
-IsAnswer bytes text _ = ⊥
+abbrev pub IsAnswer : Request → List ℕ → List ℕ → Status → Type 0
+IsAnswer requests.Scan bytes text status.Deck = IsRefusalOf bytes text
+IsAnswer requests.Scan bytes text status.Fine = IsScanOf bytes text
+IsAnswer requests.Seq bytes text status.Deck = IsRefusalOf bytes text ⊎ IsUnrun bytes text
+IsAnswer requests.Seq bytes text status.Fine = IsRunOf bytes text status.Fine
+IsAnswer requests.Seq bytes text status.Stalled = IsRunOf bytes text status.Stalled
+IsAnswer requests.Seq bytes text status.AtLimit = IsRunOf bytes text status.AtLimit
+IsAnswer request bytes text _ = ⊥
 
 -- the same of a source that told its bytes; of one that tells none, of some bytes
-abbrev pub IsAnswerOf : Option (List ℕ) → List ℕ → Status → Type 0
-IsAnswerOf left text s = (bytes : List ℕ) × IfSome left (λ told. bytes ≡ told) × IsAnswer bytes text s
+abbrev pub IsAnswerOf : Request → Option (List ℕ) → List ℕ → Status → Type 0
+IsAnswerOf request left text s = (bytes : List ℕ) × IfSome left (λ told. bytes ≡ told) × IsAnswer request bytes text s
 
 -- why nothing is to be written; the numbers are the source's faults before and now
 abbrev pub IsUnread : ℕ → ℕ → Status → Type 0
@@ -78,19 +129,18 @@ pub record Call : Type 0 where
   pub written_now : Option (List ℕ)
 
 -- exactly this text was written
-abbrev pub HasWritten : Call → Status → Type 0
-HasWritten call s = (text : List ℕ) × IsAnswerOf call.left text s × Appends call.written_before call.written_now text
+abbrev pub HasWritten : Request → Call → Status → Type 0
+HasWritten request call s = (text : List ℕ) × IsAnswerOf request call.left text s × Appends call.written_before call.written_now text
 
--- what a status says of a call
-abbrev pub Says : Call → Status → Type 0
-Says call status.Words = call.written_now ≡ call.written_before
-Says call status.Memory = call.written_now ≡ call.written_before
-Says call status.Read = HasRisen call.source_before call.source_now × (call.written_now ≡ call.written_before)
-Says call status.Write =
+-- what a status says of a call with that request
+abbrev pub Says : Request → Call → Status → Type 0
+Says request call status.Memory = call.written_now ≡ call.written_before
+Says request call status.Read = HasRisen call.source_before call.source_now × (call.written_now ≡ call.written_before)
+Says request call status.Write =
     HasRisen call.sink_before call.sink_now
-    × ((text : List ℕ) × (s : Status) × IsAnswerOf call.left text s × AppendsPrefix call.written_before call.written_now text)
-Says call status.Deck = HasWritten call status.Deck
-Says call status.Fine = HasWritten call status.Fine
-Says call status.Stalled = HasWritten call status.Stalled
-Says call status.AtLimit = HasWritten call status.AtLimit
-Says call _ = ⊥
+    × ((text : List ℕ) × (s : Status) × IsAnswerOf request call.left text s × AppendsPrefix call.written_before call.written_now text)
+Says request call status.Deck = HasWritten request call status.Deck
+Says request call status.Fine = HasWritten request call status.Fine
+Says request call status.Stalled = HasWritten request call status.Stalled
+Says request call status.AtLimit = HasWritten request call status.AtLimit
+Says request call _ = ⊥

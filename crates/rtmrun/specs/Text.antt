@@ -2,11 +2,11 @@
 use Rattle.std.specs.Prelude.{ℕ, ◌+◌, ◌/◌, ◌%◌, Bool, ◌==◌, if◌then◌else◌, List, [], ◌∷◌, ◌++◌, length, map, Option, Some, None, slice_get, codes, decimal}
 use Rattle.rtm_codes.specs.declared.code.Code.{Code}
 use Rattle.rtm_codes.specs.Code.{text_of, digit_char}
-use Rattle.rtm_deck.specs.declared.deck.Unit.{Unit as UnitCard}
-use Rattle.rtm_deck.specs.declared.op.Res.{Res}
-use Rattle.rtm_deck.specs.declared.op.Res.TheVariants as res
-use Rattle.rtm_deck.specs.Name.{trimmed}
-use Rattle.rtm_deck.specs.View.{ProgramView, DeckView}
+use Rattle.rtm_items.specs.declared.deck.Unit.{Unit as UnitCard}
+use Rattle.rtm_operands.specs.declared.value.Res.{Res}
+use Rattle.rtm_operands.specs.declared.value.Res.TheVariants as res
+use Rattle.rtm_operands.specs.Name.{trimmed}
+use Rattle.rtm_items.specs.View.{ProgramView, DeckView}
 use Rattle.rtm_model.specs.declared.block.Place.{Place}
 use Rattle.rtm_model.specs.declared.entry.Class.{Class}
 use Rattle.rtm_model.specs.declared.entry.Class.TheVariants as class

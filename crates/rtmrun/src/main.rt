@@ -4,6 +4,7 @@
 mod answer;
 mod outcome;
 mod push;
+mod request;
 mod text;
 mod top;
 mod turns;

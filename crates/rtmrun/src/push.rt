@@ -2,12 +2,12 @@
 
 ghost use Rattle.std.specs.Prelude.{◌≡◌, ◌++◌, ◌<◌, ◌≤◌, ◌+◌, length, take, OnOk, decimal, codes};
 ghost use Rattle.rtm_codes.specs.Code.{IsInRange, text_of, digit_char};
-ghost use Rattle.rtm_deck.specs.Name.{trimmed};
+ghost use Rattle.rtm_operands.specs.Name.{trimmed};
 ghost use Rattle.rtmrun.specs.Text.{reason_digits, flag_text};
 
 use itoa::Buffer;
 use rtm_codes::{Code, NoMemory, code_text};
-use rtm_deck::Name;
+use rtm_items::Name;
 
 /// Puts the bytes at the end.
 pub fn bytes(out: &mut Vec<u8>, text: &[u8]) -> Result<(), NoMemory>

@@ -8,7 +8,7 @@ ghost use Rattle.rtmrun.specs.Text.{unit_text, program_in, land_text, enter_text
 
 use crate::push;
 use rtm_codes::{Code, NoMemory};
-use rtm_deck::{Deck, Res};
+use rtm_items::{Deck, Res};
 use rtm_model::{Class, End, Entry, Fate, Kind, Mark, Place, Verdict, What};
 use std::alloc::Global;
 

@@ -3,11 +3,14 @@
 ghost use Rattle.std.specs.Prelude.{◌≡◌, ◌↔◌, ◌≤◌, ◌^◌, ◌-◌, IfOk, IfErr, OnOk, OnErr};
 ghost use Rattle.rtm_io.specs.Faults.{HasRisen, HasCause};
 ghost use Rattle.rtm_io.specs.Stream.{Appends, AppendsPrefix};
-ghost use Rattle.rtmrun.specs.Answer.{IsSeq, IsAnswer, IsAnswerOf, IsUnread, Says, refusal_text};
+ghost use Rattle.rtmrun.specs.declared.request.Request.{Request};
+ghost use Rattle.rtmrun.specs.Answer.{AreUnknown, words_of, IsAnswer, IsAnswerOf, IsUnread, Says, refusal_text};
 
-use crate::answer::{Answer, is_seq, refusal, seq_answer};
+use crate::answer::{Answer, answer_to, refusal};
 use crate::outcome::{Outcome, RtmWord, Status};
+use crate::request::{Request, request_of};
 use rtm_codes::NoMemory;
+use rtm_items::Why;
 use rtm_io::{InFault, Sink, Source, read_all, write_all};
 use std::alloc::Global;
 
@@ -15,36 +18,36 @@ use std::alloc::Global;
 const INPUT_LIMIT: usize = 16_777_216;
 
 // What is to be written of the bytes that were read. Want of memory is the status Memory.
-fn answer_of(alloc: Global, bytes: &[u8]) -> Result<Answer, Status>
-    ensures ok { IfOk result (λ answer. IsAnswer bytes.now answer.text.items answer.status) }
+fn answer_of(alloc: Global, request: Request, bytes: &[u8]) -> Result<Answer, Status>
+    ensures ok { IfOk result (λ answer. IsAnswer request bytes.now answer.text.items answer.status) }
     ensures err { IfErr result (λ status. status ≡ Status.Memory) }
 {
-    match seq_answer(alloc, bytes) {
+    match answer_to(alloc, request, bytes) {
         Ok(answer) => Ok(answer),
         Err(NoMemory) => Err(Status::Memory),
     }
 }
 
-// What is to be written where more bytes came than are read.
-fn refused(alloc: Global) -> Result<Answer, Status>
-    ensures text { IfOk result (λ answer. answer.text.items ≡ refusal_text) }
+// What is to be written where more bytes came than are read, the first of them too many on that card.
+fn refused(alloc: Global, card: u32) -> Result<Answer, Status>
+    ensures text { IfOk result (λ answer. answer.text.items ≡ refusal_text card Why.TooLong) }
     ensures status { IfOk result (λ answer. answer.status ≡ Status.Deck) }
     ensures err { IfErr result (λ status. status ≡ Status.Memory) }
 {
-    match refusal(alloc) {
+    match refusal(alloc, card, Why::TooLong) {
         Ok(answer) => Ok(answer),
         Err(NoMemory) => Err(Status::Memory),
     }
 }
 
 // Reads a deck, and makes what is to be written of it.
-fn read_answer<S: Source>(alloc: Global, src: &mut S) -> Result<Answer, Status>
-    ensures ok { IfOk result (λ answer. IsAnswerOf (S.left src.old) answer.text.items answer.status) }
+fn read_answer<S: Source>(alloc: Global, request: Request, src: &mut S) -> Result<Answer, Status>
+    ensures ok { IfOk result (λ answer. IsAnswerOf request (S.left src.old) answer.text.items answer.status) }
     ensures err { IfErr result (IsUnread (S.faults src.old) (S.faults src.new)) }
 {
     match read_all(alloc, src, INPUT_LIMIT) {
-        Ok(bytes) => answer_of(alloc, &bytes),
-        Err(InFault::TooLong { .. }) => refused(alloc),
+        Ok(bytes) => answer_of(alloc, request, &bytes),
+        Err(InFault::TooLong { line }) => refused(alloc, line),
         Err(InFault::Memory) => Err(Status::Memory),
         Err(InFault::Read) => Err(Status::Read),
     }
@@ -63,11 +66,11 @@ fn write_answer<K: Sink>(out: &mut K, answer: &Answer) -> Result<Status, ()>
     }
 }
 
-/// Does what the words say, and nothing else: `seq` reads a deck from the source, runs it on one thread, and writes its
-/// trace.
+/// Does what the words say, and nothing else: `scan` reads a deck from the source and writes its canonical text, `seq`
+/// runs it on one thread and writes its trace.
 ///
-/// A source that has more than 16,777,216 bytes left is refused as a deck is. So far a deck that isn't canonical but for
-/// its comments and blank cards, or that has cards which aren't run yet, is refused as `DECK 0 WrongPlace`.
+/// An input that spells no deck is refused with its first fault; one of more than 16,777,216 bytes is too long. So far
+/// `seq` refuses a deck of several units, of commands, or of cards that aren't run yet as `DECK 0 WrongPlace`.
 pub fn plain_words<S: Source, K: Sink>(
     alloc: Global,
     words: &[RtmWord],
@@ -75,11 +78,11 @@ pub fn plain_words<S: Source, K: Sink>(
     out: &mut K,
 ) -> Outcome
     // Words comes exactly where the words are none that are known, and then nothing was read and nothing written.
-    ensures words { (result.status ≡ Status.Words) ↔ (IsSeq words.now → ⊥) }
+    ensures words { (result.status ≡ Status.Words) ↔ AreUnknown words.now }
     ensures source { result.status ≡ Status.Words → src.new ≡ src.old }
     ensures sink { result.status ≡ Status.Words → out.new ≡ out.old }
 
-    ensures answer { Says (record {
+    ensures answer { (request : Request) → words.now ≡ words_of request → Says request (record {
       left = S.left src.old;
       source_before = S.faults src.old;
       source_now = S.faults src.new;
@@ -89,17 +92,34 @@ pub fn plain_words<S: Source, K: Sink>(
       written_now = K.written out.new;
     }) result.status }
 {
-    if !is_seq(words) {
-        return Outcome {
+    match request_of(words) {
+        None => Outcome {
             status: Status::Words,
-        };
+        },
+        Some(request) => Outcome {
+            status: done(alloc, request, src, out),
+        },
     }
-    let status = match read_answer(alloc, src) {
+}
+
+// Does what is asked for, and answers the status.
+fn done<S: Source, K: Sink>(alloc: Global, request: Request, src: &mut S, out: &mut K) -> Status
+    ensures known { result ≡ Status.Words → ⊥ }
+    ensures answer { Says request (record {
+      left = S.left src.old;
+      source_before = S.faults src.old;
+      source_now = S.faults src.new;
+      sink_before = K.faults out.old;
+      sink_now = K.faults out.new;
+      written_before = K.written out.old;
+      written_now = K.written out.new;
+    }) result }
+{
+    match read_answer(alloc, request, src) {
         Err(status) => status,
         Ok(answer) => match write_answer(out, &answer) {
             Ok(status) => status,
             Err(()) => Status::Write,
         },
-    };
-    Outcome { status }
+    }
 }

@@ -1,6 +1,6 @@
 use Rattle.std.proofs.Common.{◌∙◌, sym, refl, arith, length, ◌≡◌, ◌≤◌, subst, true, rules}
 use Rattle.std.specs.Prelude.{is_none}
-use Rattle.rtm_deck.specs.View.{DeckView}
+use Rattle.rtm_items.specs.View.{DeckView}
 use Rattle.rtm_model.specs.History.{end_of}
 use Rattle.rtmrun.proofs.TurnLemmas.{all_left, next_turn, none_is}
 use Rattle.rtmrun.proofs.turns.seq_run.Goals as goal

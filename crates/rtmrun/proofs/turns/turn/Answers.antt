@@ -1,5 +1,5 @@
 use Rattle.std.proofs.Common.{ap, ◌∙◌, arith, length, ◌≡◌, ◌-◌, ◌+◌}
-use Rattle.rtm_deck.specs.View.{DeckView}
+use Rattle.rtm_items.specs.View.{DeckView}
 use Rattle.rtmrun.proofs.TurnLemmas.{begins, goes, finds, nothing, after_of}
 use Rattle.rtmrun.proofs.turns.turn.Goals as goal
 
@@ -24,4 +24,4 @@ units-preserved c =
 
 pub returns-clause-made : goal.returns-clause-made
 returns-clause-made c =
-    absurd (nothing c.args.system.now c.units.system c.args.first c.units.unit (c.unit_count-count.result + 1 - c.units.counter) c.units.invariant (omega arith) c.deck.ensures.fits c.requires.unit c.requires.goes_on)
+    absurd (nothing c.args.system.now c.units.system c.args.first c.units.unit (c.unit_count-count.result + 1 - c.units.counter) c.units.invariant (omega arith) c.deck.ensures.runs c.requires.unit c.requires.goes_on)

@@ -4,4 +4,4 @@ use Rattle.rtm_system.proofs.Standing.{starts}
 use Rattle.rtm_system.proofs.system.System.new.Goals as goal
 
 pub invariant_of-result : goal.invariant_of-result
-invariant_of-result c = starts _ _ _ _ c.entry_limit.ensures.fits (c.in_ok-unit.ensures ∙ ap core_of c.job_step_program.ensures) c.in_ok-trace.ensures.items (omega (arith, c.in_ok-trace.ensures.exact, c.entry_limit.ensures.limit))
+invariant_of-result c = starts _ _ _ _ c.requires (c.in_ok-unit.ensures ∙ ap core_of c.program_of.ensures) c.in_ok-trace.ensures.items (omega (arith, c.in_ok-trace.ensures.exact, c.entry_limit.ensures))

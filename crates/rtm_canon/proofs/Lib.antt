@@ -1,0 +1,9 @@
+pub mod Each
+pub mod Fitting
+pub mod PartTexts
+pub mod OperandLaws
+pub mod CardLines
+pub mod Shortest
+pub mod Covered
+pub mod Canonical
+pub mod CanonLaws

@@ -1,0 +1,30 @@
+-- What a call gives.
+use Rattle.std.proofs.Common.{◌≡◌, ◌∙◌, sym, ap, subst}
+use Rattle.std.specs.Prelude.{ℕ, Option, Result, Ok, Err}
+use Rattle.rtm_cards.specs.declared.fault.CutFault.{CutFault}
+use Rattle.rtm_deck.specs.declared.fault.DeckFault.{DeckFault}
+use Rattle.rtm_deck.specs.declared.fault.DeckFault.TheVariants.{Memory, Refused}
+use Rattle.rtm_items.specs.View.{DeckView}
+use Rattle.rtm_deck.specs.View.{ScanView, Refusal}
+use Rattle.rtm_deck.specs.Reader.{Gives, Finds, judged, named}
+
+-- want of memory is free
+pub gives-memory : {A B : Type 0} (P : A → B → Type 0) (r : Result A DeckFault) (e : DeckFault) (y : Result B Refusal) → r ≡ Err e → e ≡ Memory → Gives P r y
+gives-memory P r e y is memory = subst (λ x. Gives P x y) (sym (is ∙ ap Err memory)) tt
+
+-- a value is what is given
+pub gives-value : {A : Type 0} (x : A) (y : Result A Refusal) → Gives (λ a b. a ≡ b) (Ok x) y → y ≡ Ok x
+gives-value x (Ok z) h = ap Ok (sym h)
+gives-value x (Err r) h = absurd h
+
+-- a fault of form is what is judged
+pub gives-judged : {A B : Type 0} (P : A → ScanView → Type 0) (Q : B → DeckView → Type 0) (e : DeckFault) (y : Result ScanView Refusal) (lines : ℕ) (fault : Option CutFault) →
+    Gives P (Err e) y → Gives Q (Err e) (judged lines fault y)
+gives-judged P Q Memory y lines fault h = tt
+gives-judged P Q (Refused card why) y lines fault h = ap (judged lines fault) h
+
+-- a name that isn't there is what is named
+pub gives-named : (A : Type 0) {B : Type 0} (Q : B → DeckView → Type 0) (e : DeckFault) (t : ScanView) (y : Option Refusal) →
+    Finds {A = A} (Err e) y → Gives Q (Err e) (named t y)
+gives-named A Q Memory t y h = tt
+gives-named A Q (Refused card why) t y h = ap (named t) h

@@ -1,0 +1,13 @@
+pub mod Values
+pub mod Forms
+pub mod FirstFault
+pub mod LaidOut
+pub mod Parts
+pub mod Decoded
+pub mod Operations
+pub mod OneDeck
+pub mod RuleTests
+pub mod Behind
+pub mod NoFormFault
+pub mod Found
+pub mod NotBoth
