@@ -3,3 +3,4 @@ pub mod Decks
 pub mod CanNext
 pub mod Keeps
 pub mod Histories
+pub mod SetrpCards

@@ -7,3 +7,9 @@ pub mod Sound
 pub mod Fitting
 pub mod Chains
 pub mod Runs
+pub mod Blocks
+pub mod Tasks
+pub mod Aborts
+pub mod Levels
+pub mod SetrpCard
+pub mod Ending

@@ -75,6 +75,21 @@ percolated r = record r { flags = record (asked_nothing r.flags) { perc = true }
 abbrev pub after_failure : ErrorRecord → ErrorRecord
 after_failure r = record r { flags = record (asked_nothing r.flags) { staf = true }; rc = 0; retaddr = None }
 
+-- An outer record takes over from the record of the error by which its routine failed: code, reason, the dump request,
+-- which routines are eligible, and that nothing is retried. The first code and STEP stay (this profile).
+abbrev pub taken_over : ErrorRecord → ErrorRecord → ErrorRecord
+taken_over inner outer = record outer {
+  code = inner.code;
+  reason = inner.reason;
+  flags = record outer.flags { clup = true; reason = is_some inner.reason; term_only = inner.flags.term_only; dump = inner.flags.dump };
+}
+
+-- The routine has failed by an error that has the record `inner`: that it forbids a retry is handed on to the record of
+-- the error that the routine was entered for, which else keeps its own (this profile).
+abbrev pub inner_failed : ErrorRecord → ErrorRecord → ErrorRecord
+inner_failed inner outer =
+    if inner.flags.clup && not outer.flags.clup then taken_over inner (after_failure outer) else after_failure outer
+
 -- where the error would be retried: RC=4 asks for it, nothing forbids it, and the label stands in the program of the request block
 abbrev pub retry_place : DeckView → ℕ → ErrorRecord → Option Place
 retry_place d prog r =

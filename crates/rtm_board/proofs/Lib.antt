@@ -1,0 +1,5 @@
+pub mod Sets
+pub mod Accounts
+pub mod Opening
+pub mod Closing
+pub mod Keeping

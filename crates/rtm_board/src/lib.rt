@@ -1,0 +1,14 @@
+//! The operator's board: a word of posted commands for each unit, the seats from which it is written and read, and the notes
+//! that come out of it.
+#![tactic(auto)]
+
+mod bits;
+mod board;
+mod notes;
+mod seats;
+#[cfg(test)]
+mod tests;
+
+pub use board::{Board, Posted};
+pub use notes::{Note, Notes};
+pub use seats::{ConsoleSeat, UnitSeat};

@@ -1,0 +1,210 @@
+-- How many holdings were born at an entry, as the lists change.
+use Rattle.std.proofs.Common.{◌≡◌, ℕ, zero, suc, ◌+◌, ◌-◌, ◌<◌, ◌≤◌, Bool, true, false, cond, List, [], ◌∷◌, length, replicate, reverse, take, drop, Option, Some, None, ◌++◌, slice_get, refl, sym, ap, ◌∙◌, arith}
+use Rattle.std.specs.Prelude.{◌==◌, not, if◌then◌else◌, map, filter, find, slice_index_or, slice_set}
+use Rattle.std.specs.List.{AllByRecursion}
+use Rattle.std.proofs.lemmas.List.{reverse-append, reverse-reverse, take_at, length-reverse, length_push, length-replicate, length-set, set-get_or, drop_all, append-nil, take_all}
+use Rattle.std.proofs.lemmas.Bool.Decides.{nat_tests}
+use Rattle.std.proofs.lemmas.Bool.{eq-eqb}
+use Rattle.rtm_operands.specs.declared.value.Res.{Res}
+use Rattle.rtm_operands.specs.declared.value.Res.TheVariants.{Enq, Stor, Dsn, Timr}
+use Rattle.rtm_model.specs.declared.holding.Holding.{Holding}
+use Rattle.rtm_model.specs.Chains.{without_first}
+use Rattle.rtm_model.specs.Ending.{Holdings, no_holdings, of_class, on_class, held_by, on_owner, is_of_id, got, freed, without_holding, released_of, released, AreBornBefore, IsHeldBefore, AreHeldBefore}
+use Rattle.rtm_ending.specs.View.{births_at, births_of, births_among, AreKept}
+
+-- one or none, by a test
+one_if : Bool → ℕ
+one_if b = cond b 1 0
+
+-- Of a list
+
+-- a holding that isn't there isn't missed
+kept_or_not : (b : Bool) (h : Holding) (hs ks : List Holding) (n : ℕ) → (cond b 1 0) + n ≡ 0 → (n ≡ 0 → ks ≡ hs) → cond (not b) (h ∷ ks) ks ≡ h ∷ hs
+kept_or_not true h hs ks n e rest = absurd (omega arith)
+kept_or_not false h hs ks n e rest = ap (λ l. h ∷ l) (rest (omega arith))
+
+pub not_there : (born : ℕ) (hs : List Holding) → births_at born hs ≡ 0 → without_holding born hs ≡ hs
+not_there born [] e = refl
+not_there born (h ∷ hs) e = kept_or_not (h.born == born) h hs (without_holding born hs) (births_at born hs) e (not_there born hs)
+
+-- the newest of a list is the only one that was born there
+newest_or_not : (b : Bool) (h : Holding) (hs ks : List Holding) (n : ℕ) → b ≡ true → (cond b 1 0) + n ≤ 1 → (n ≡ 0 → ks ≡ hs) → cond (not b) (h ∷ ks) ks ≡ hs
+newest_or_not true h hs ks n e most rest = rest (omega arith)
+newest_or_not false h hs ks n e most rest = absurd cc
+
+pub newest_released : (born : ℕ) (h : Holding) (hs : List Holding) → (h.born == born) ≡ true → births_at born (h ∷ hs) ≤ 1 → without_holding born (h ∷ hs) ≡ hs
+newest_released born h hs e most = newest_or_not (h.born == born) h hs (without_holding born hs) (births_at born hs) e most (not_there born hs)
+
+newest_counts : (b : Bool) (n : ℕ) → b ≡ true → (cond b 1 0) + n ≤ 1 → (cond b 1 0) + n ≡ 1
+newest_counts true n e most = omega arith
+newest_counts false n e most = absurd cc
+
+pub newest_born : (born : ℕ) (h : Holding) (hs : List Holding) → (h.born == born) ≡ true → births_at born (h ∷ hs) ≤ 1 → births_at born (h ∷ hs) ≡ 1
+newest_born born h hs e most = newest_counts (h.born == born) (births_at born hs) e most
+
+-- the same of a list that has the oldest first, and loses its last
+same_value : {A : Type 0} (x y : A) → Some x ≡ Some y → x ≡ y
+same_value x y e = cc
+
+pub popped : (born : ℕ) (hs : List Holding) (h : Holding) → slice_get hs 0 ≡ Some h → h.born ≡ born → births_at born hs ≤ 1 → reverse (take (length (reverse hs) - 1) (reverse hs)) ≡ without_holding born hs
+popped born [] h e is most = absurd cc
+popped born (x ∷ xs) h e is most =
+    let back : reverse (x ∷ xs) ≡ reverse xs ++ x ∷ [] = reverse-append (x ∷ []) xs in
+    let last : length (reverse xs) ≡ length (reverse xs ++ x ∷ []) - 1 = omega (arith, length_push (reverse xs) x) in
+    let same : x ≡ h = same_value x h e in
+    let here : (x.born == born) ≡ true = eq-eqb x.born born (ap (λ (y : Holding). y.born) same ∙ is) in
+    ap (λ l. reverse (take (length l - 1) l)) back
+    ∙ ap reverse (take_at (reverse xs) (x ∷ []) (length (reverse xs ++ x ∷ []) - 1) last)
+    ∙ reverse-reverse xs ∙ sym (newest_released born x xs here most)
+
+-- fewer or as many births in a list that has lost some
+drop_step : (b keep : Bool) (born : ℕ) (h : Holding) (hs ks : List Holding) → births_at born ks ≤ births_at born hs → births_at born (cond keep (h ∷ ks) ks) ≤ (if h.born == born then 1 else 0) + births_at born hs
+drop_step b true born h hs ks le = omega arith
+drop_step b false born h hs ks le = omega arith
+
+pub births-filter : (born : ℕ) (p : Holding → Bool) (hs : List Holding) → births_at born (filter p hs) ≤ births_at born hs
+births-filter born p [] = omega arith
+births-filter born p (h ∷ hs) = drop_step (p h) (p h) born h hs (filter p hs) (births-filter born p hs)
+
+first_step : (b : Bool) (born : ℕ) (h : Holding) (hs ks : List Holding) → births_at born ks ≤ births_at born hs → births_at born (if b then hs else h ∷ ks) ≤ (if h.born == born then 1 else 0) + births_at born hs
+first_step true born h hs ks le = omega arith
+first_step false born h hs ks le = omega arith
+
+pub births-without_first : (born : ℕ) (p : Holding → Bool) (hs : List Holding) → births_at born (without_first p hs) ≤ births_at born hs
+births-without_first born p [] = omega arith
+births-without_first born p (h ∷ hs) = first_step (p h) born h hs (without_first p hs) (births-without_first born p hs)
+
+-- none was born at an entry after all of them
+later_step : (a b n : ℕ) → a < b → n ≡ 0 → (if a == b then 1 else 0) + n ≡ 0
+later_step a b n below none = grind (arith, nat_tests)
+
+pub births-before : (born : ℕ) (hs : List Holding) → AreBornBefore born hs → births_at born hs ≡ 0
+births-before born [] h = refl
+births-before born (x ∷ xs) h = later_step x.born born (births_at born xs) h.0 (births-before born xs h.1)
+
+-- Of an owner
+
+pub births-none_of : (born : ℕ) (held : Holdings) → IsHeldBefore born held → births_of born held ≡ 0
+births-none_of born held h =
+    omega (arith, births-before born held.enq h.enq, births-before born held.stor h.stor, births-before born held.dsn h.dsn, births-before born held.timr h.timr)
+
+pub births-released_of : (b born : ℕ) (held : Holdings) → births_of b (released_of born held) ≤ births_of b held
+births-released_of b born held =
+    let p : Holding → Bool = λ x. not (x.born == born) in
+    omega (arith, births-filter b p held.enq, births-filter b p held.stor, births-filter b p held.dsn, births-filter b p held.timr)
+
+pub births-taken : (b : ℕ) (class : Res) (p : Holding → Bool) (held : Holdings) → births_of b (on_class class (without_first p) held) ≤ births_of b held
+births-taken b Enq p held = omega (arith, births-without_first b p held.enq)
+births-taken b Stor p held = omega (arith, births-without_first b p held.stor)
+births-taken b Dsn p held = omega (arith, births-without_first b p held.dsn)
+births-taken b Timr p held = omega (arith, births-without_first b p held.timr)
+
+pub births-put : (b : ℕ) (class : Res) (h : Holding) (held : Holdings) → births_of b (on_class class (λ hs. h ∷ hs) held) ≡ births_of b held + (if h.born == b then 1 else 0)
+births-put b Enq h held = omega arith
+births-put b Stor h held = omega arith
+births-put b Dsn h held = omega arith
+births-put b Timr h held = omega arith
+
+pub not_there_of : (born : ℕ) (held : Holdings) → births_of born held ≡ 0 → released_of born held ≡ held
+not_there_of born held e =
+    let enq : births_at born held.enq ≡ 0 = omega arith in
+    let stor : births_at born held.stor ≡ 0 = omega arith in
+    let dsn : births_at born held.dsn ≡ 0 = omega arith in
+    let timr : births_at born held.timr ≡ 0 = omega arith in
+    let e1 = not_there born held.enq enq in
+    let e2 = not_there born held.stor stor in
+    let e3 = not_there born held.dsn dsn in
+    let e4 = not_there born held.timr timr in
+    λ i. record { enq = e1 i; stor = e2 i; dsn = e3 i; timr = e4 i }
+
+-- Of all owners
+
+pub births-none_among : (born : ℕ) (owners : List Holdings) → AreHeldBefore born owners → births_among born owners ≡ 0
+births-none_among born [] h = refl
+births-none_among born (x ∷ xs) h = omega (arith, births-none_of born x h.0, births-none_among born xs h.1)
+
+pub births-set : (b : ℕ) (owners : List Holdings) (i : ℕ) (d held : Holdings) → i < length owners → births_among b (slice_set owners i held) + births_of b (slice_index_or owners i d) ≡ births_among b owners + births_of b held
+births-set b [] i d held within = absurd (omega arith)
+births-set b (x ∷ xs) zero d held within = omega arith
+births-set b (x ∷ xs) (suc i) d held within = omega (arith, births-set b xs i d held (omega arith))
+
+pub births-set_fewer : (b : ℕ) (owners : List Holdings) (i : ℕ) (d held : Holdings) → births_of b held ≤ births_of b (slice_index_or owners i d) → births_among b (slice_set owners i held) ≤ births_among b owners
+births-set_fewer b [] i d held fewer = omega arith
+births-set_fewer b (x ∷ xs) zero d held fewer = omega arith
+births-set_fewer b (x ∷ xs) (suc i) d held fewer = omega (arith, births-set_fewer b xs i d held fewer)
+
+pub births-released : (b born : ℕ) (owners : List Holdings) → births_among b (released born owners) ≤ births_among b owners
+births-released b born [] = omega arith
+births-released b born (x ∷ xs) = omega (arith, births-released_of b born x, births-released b born xs)
+
+pub births-freed : (b owner : ℕ) (class : Res) (id : ℕ) (owners : List Holdings) → births_among b (freed owner class id owners) ≤ births_among b owners
+births-freed b owner class id owners =
+    births-set_fewer b owners owner no_holdings _ (births-taken b class (is_of_id id) (held_by owner owners))
+
+pub births_at_index : (b : ℕ) (owners : List Holdings) (i : ℕ) (d : Holdings) → i < length owners → births_of b (slice_index_or owners i d) ≤ births_among b owners
+births_at_index b [] i d within = absurd (omega arith)
+births_at_index b (x ∷ xs) zero d within = omega arith
+births_at_index b (x ∷ xs) (suc i) d within = omega (arith, births_at_index b xs i d (omega arith))
+
+-- a new birth is no other's
+got_step : (a b all one n m : ℕ) → all + m ≡ n + (m + one) → n ≤ 1 → (a ≡ b → n ≡ 0) → one ≡ (if a == b then 1 else 0) → all ≤ 1
+got_step a b all one n m e most fresh is = grind (arith, nat_tests)
+
+pub births-got : (b : ℕ) (h : Holding) (owners : List Holdings) → h.owner < length owners → AreHeldBefore h.born owners → births_among b owners ≤ 1 → births_among b (got h owners) ≤ 1
+births-got b h owners within before most =
+    let held : Holdings = held_by h.owner owners in
+    let all : births_among b (got h owners) + births_of b held ≡ births_among b owners + (births_of b held + (if h.born == b then 1 else 0)) =
+    births-set b owners h.owner no_holdings _ within ∙ ap (λ (n : ℕ). births_among b owners + n) (births-put b h.class h held) in
+    let fresh : h.born ≡ b → births_among b owners ≡ 0 = λ e. ap (λ (n : ℕ). births_among n owners) (sym e) ∙ births-none_among h.born owners before in
+    got_step h.born b (births_among b (got h owners)) (if h.born == b then 1 else 0) (births_among b owners) (births_of b held) all most fresh refl
+
+pub nobody_else : (born : ℕ) (owners : List Holdings) → births_among born owners ≡ 0 → released born owners ≡ owners
+nobody_else born [] e = refl
+nobody_else born (x ∷ xs) e =
+    let here : births_of born x ≡ 0 = omega arith in
+    let there : births_among born xs ≡ 0 = omega arith in
+    let a = not_there_of born x here in
+    let b = nobody_else born xs there in
+    λ i. a i ∷ b i
+
+-- the one owner whose holding was born there is changed, and no other one has such a holding
+pub released_one : (born : ℕ) (owners : List Holdings) (i : ℕ) (d : Holdings) → i < length owners → births_of born (slice_index_or owners i d) ≡ 1 → births_among born owners ≤ 1 → slice_set owners i (released_of born (slice_index_or owners i d)) ≡ released born owners
+released_one born [] i d within one most = absurd (omega arith)
+released_one born (x ∷ xs) zero d within one most =
+    let there : births_among born xs ≡ 0 = omega arith in
+    ap (λ l. released_of born x ∷ l) (sym (nobody_else born xs there))
+released_one born (x ∷ xs) (suc i) d within one most =
+    let below : i < length xs = omega arith in
+    let here : births_of born x ≡ 0 = omega (arith, births_at_index born xs i d below) in
+    let a = sym (not_there_of born x here) in
+    let b = released_one born xs i d below one (omega arith) in
+    λ i. a i ∷ b i
+
+-- What holdings keep
+
+pub kept_got : (units : ℕ) (h : Holding) (owners : List Holdings) → h.owner ≤ units → AreHeldBefore h.born owners → AreKept units owners → length (got h owners) ≡ length owners → AreKept units (got h owners)
+kept_got units h owners within before kept same =
+    record { all = omega arith; distinct = λ b. births-got b h owners (omega arith) before (kept.distinct b) }
+
+pub kept_fewer : (units : ℕ) (owners now : List Holdings) → AreKept units owners → length now ≡ length owners → ((b : ℕ) → births_among b now ≤ births_among b owners) → AreKept units now
+kept_fewer units owners now kept same fewer =
+    record { all = omega arith; distinct = λ b. omega (arith, fewer b, kept.distinct b) }
+
+births-nothing : (b n : ℕ) → births_among b (replicate n no_holdings) ≡ 0
+births-nothing b zero = refl
+births-nothing b (suc n) = omega (arith, births-nothing b n)
+
+pub kept_nothing : (units : ℕ) → AreKept units (replicate (units + 1) no_holdings)
+kept_nothing units =
+    record { all = length-replicate (units + 1) no_holdings; distinct = λ b. omega (arith, births-nothing b (units + 1)) }
+
+-- a list that is changed from its front on, one element further
+pub map_further : {A : Type 0} (f : A → A) (xs : List A) (i : ℕ) (d : A) → i < length xs → slice_set (map f (take i xs) ++ drop i xs) i (f (slice_index_or (map f (take i xs) ++ drop i xs) i d)) ≡ map f (take (suc i) xs) ++ drop (suc i) xs
+map_further f [] i d within = absurd (omega arith)
+map_further f (x ∷ xs) zero d within = refl
+map_further f (x ∷ xs) (suc i) d within = ap (λ l. f x ∷ l) (map_further f xs i d (omega arith))
+
+-- what a slice of a whole vector leaves
+pub whole_slice : {A : Type 0} (n : ℕ) (new old : List A) → length new ≡ n → length old ≡ n → take n (new ++ drop (length new) old) ≡ new
+whole_slice n new old e e' =
+    ap (λ l. take n (new ++ l)) (drop_all (length new) old (omega arith)) ∙ ap (take n) (append-nil new) ∙ take_all n new (omega arith)

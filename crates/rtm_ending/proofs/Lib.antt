@@ -1,0 +1,3 @@
+pub mod Backwards
+pub mod Births
+pub mod Before

@@ -1,0 +1,10 @@
+use Rattle.std.proofs.Common.{sym, ◌∙◌}
+use Rattle.rtm_model.specs.Ending.{is_of_id}
+use Rattle.rtm_ending.proofs.Backwards.{newest_at, absent_from}
+use Rattle.rtm_ending.proofs.class_list.newest_index.Goals as goal
+
+pub returns-in-Some-clause-there : goal.returns-in-Some-clause-there
+returns-in-Some-clause-there c = newest_at (is_of_id c.args.id) c.args.list.now c.in-Some.newer (sym c.newer_than_newest.ensures ∙ c.in-Some.is)
+
+pub returns-in-None-clause-absent : goal.returns-in-None-clause-absent
+returns-in-None-clause-absent c = absent_from (is_of_id c.args.id) c.args.list.now (sym c.newer_than_newest.ensures ∙ c.in-None.is)

@@ -1,0 +1,18 @@
+use Rattle.std.proofs.Common.{◌≡◌, ◌+◌, ◌<◌, ◌++◌, ◌∙◌, ℕ, suc, List, length, ap, sym, map, take, drop, arith}
+use Rattle.std.specs.Prelude.{slice_set, slice_index_or}
+use Rattle.rtm_model.specs.Ending.{Holdings, released_of}
+use Rattle.rtm_ending.proofs.Births.{map_further}
+use Rattle.rtm_ending.proofs.holds.release_anywhere.Goals as goal
+
+pub loop-lists-preserved : goal.loop-lists-preserved
+loop-lists-preserved c =
+    let f : Holdings → Holdings = released_of c.args.born in
+    let i = c.loop-lists.lists-index in
+    let xs = c.args.owners.now in
+    let d = c.lists-item.result in
+    let next : suc i ≡ i + 1 = omega arith in
+    let within : i < length xs = omega (arith, c.loop-lists-test.true) in
+    ap (λ (l : List Holdings). slice_set l i c.release.new.self) c.loop-lists.invariant
+    ∙ ap (λ (y : Holdings). slice_set (map f (take i xs) ++ drop i xs) i y) (c.release.ensures ∙ ap (λ (l : List Holdings). f (slice_index_or l i d)) c.loop-lists.invariant)
+    ∙ map_further f xs i d within
+    ∙ ap (λ (n : ℕ). map f (take n xs) ++ drop n xs) next

@@ -1,0 +1,7 @@
+use Rattle.std.proofs.Common.{◌==◌, not, rules}
+use Rattle.std.proofs.lemmas.Fn.{filter_same}
+use Rattle.rtm_model.specs.declared.holding.Manager1.{Manager1}
+use Rattle.rtm_ending.proofs.managers.drop_born.Goals as goal
+
+pub returns-clause-items : goal.returns-clause-items
+returns-clause-items c = filter_same _ (λ (manager : Manager1). not (manager.born == c.args.born)) _ (λ x b f' s. search rules) _ _ c.retain.ensures.filtered

@@ -1,0 +1,4 @@
+pub mod Acts
+pub mod Newest
+pub mod Refused
+pub mod View

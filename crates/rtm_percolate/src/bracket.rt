@@ -1,0 +1,153 @@
+//! One bracket, and lists of brackets over room that was reserved: the outermost stands first, the newest last.
+
+ghost use Rattle.std.specs.Prelude.{◌≡◌, ◌+◌, ◌<◌, ◌∷◌, [], length, reverse, vec_len, vec_capacity, is_some};
+ghost use Rattle.std.specs.List.{list_any};
+ghost use Rattle.rtm_model.specs.Record.{setrp_in, percolated, inner_failed};
+ghost use Rattle.rtm_model.specs.Levels.{innermost, enclosing, shields, shielded, on_record, with_open, after_verdict, failed_by};
+ghost use Rattle.rtm_model.specs.SetrpCard.{is_setrp_card};
+ghost use Rattle.std.specs.Prelude.{IsTrue, None, Some};
+
+use rtm_items::Setrp;
+use rtm_model::{Kind, Reg, Verdict};
+use rtm_sdwa::Sdwa;
+use std::marker::Model;
+
+/// A bracket: the routine that runs in it, none in the outermost, and the record of its open error.
+#[derive(Clone, Copy)]
+pub(crate) struct Bracket {
+    pub(crate) routine: Option<Reg>,
+    pub(crate) error: Option<Sdwa>,
+}
+
+impl Model for Bracket {
+    ghost use Rattle.rtm_model.specs.Levels.{Level};
+
+    ghost Value = { Level };
+
+    ghost view = { λ a. record { routine = a.routine; error = a.error } };
+
+    ghost inverse = { λ l. record { routine = l.routine; error = l.error } };
+}
+
+/// The outermost bracket, with no error.
+pub(crate) const OUTERMOST: Bracket = Bracket {
+    routine: None,
+    error: None,
+};
+
+impl Bracket {
+    /// Whether no abort interrupts its routine: an FRR, a resource manager, or one with CANCEL=NO.
+    pub(crate) fn shields(&self) -> bool
+        ensures { result ≡ shields self.now.routine }
+    {
+        match self.routine {
+            None => false,
+            Some(reg) => matches!(reg.kind, Kind::Frr | Kind::Mgr) || !reg.cancel,
+        }
+    }
+
+    /// With that error open, or none.
+    pub(crate) fn with_open(self, error: Option<Sdwa>) -> Bracket
+        ensures { result ≡ with_open error self }
+    {
+        Bracket { error, ..self }
+    }
+
+    /// With what SETRP makes of its error's record.
+    pub(crate) fn after_setrp(self, card: &Setrp) -> Bracket
+        requires { IsTrue (is_setrp_card card.now) }
+        ensures value { result ≡ on_record (setrp_in card.now) self }
+        ensures keeps { is_some result.error ≡ is_some self.error }
+    {
+        match self.error {
+            None => self,
+            Some(mut sdwa) => {
+                sdwa.setrp(card);
+                self.with_open(Some(sdwa))
+            }
+        }
+    }
+
+    /// With its error percolated.
+    fn percolated(self) -> Bracket
+        ensures { result ≡ on_record percolated self }
+    {
+        match self.error {
+            None => self,
+            Some(mut sdwa) => {
+                sdwa.percolate();
+                self.with_open(Some(sdwa))
+            }
+        }
+    }
+
+    /// With what a routine's failure by that error makes of its error's record.
+    fn failed_by(self, inner: Option<Sdwa>) -> Bracket
+        ensures { result ≡ on_record (failed_by inner) self }
+    {
+        match (self.error, inner) {
+            (Some(mut sdwa), Some(inner)) => {
+                sdwa.inner_failed(&inner);
+                self.with_open(Some(sdwa))
+            }
+            _ => self,
+        }
+    }
+
+    /// After the routine of the bracket within it, where that error was open, was left with that verdict.
+    pub(crate) fn after_verdict(self, verdict: Verdict, inner: Option<Sdwa>) -> Bracket
+        ensures value { result ≡ after_verdict verdict inner self }
+        ensures routine { result.routine ≡ self.routine }
+    {
+        match verdict {
+            Verdict::Retry(_) => self.with_open(None),
+            Verdict::Perc | Verdict::Stop | Verdict::Bad => self.percolated(),
+            Verdict::Fail => self.failed_by(inner),
+            Verdict::Over => self,
+        }
+    }
+}
+
+/// Puts a bracket into the newest one, where room is left.
+pub(crate) fn put(list: &mut Vec<Bracket>, bracket: Bracket)
+    requires { vec_len list.old < vec_capacity list.old }
+    ensures items { reverse list.new.items ≡ bracket ∷ reverse list.old.items }
+    ensures len { length list.new.items ≡ length list.old.items + 1 }
+    ensures capacity { vec_capacity list.new ≡ vec_capacity list.old }
+{
+    list.push_reserved(bracket);
+}
+
+/// Takes the newest bracket.
+pub(crate) fn take(list: &mut Vec<Bracket>) -> Bracket
+    requires { 0 < vec_len list.old }
+    ensures items { reverse list.old.items ≡ result ∷ reverse list.new.items }
+    ensures len { length list.new.items + 1 ≡ length list.old.items }
+    ensures capacity { vec_capacity list.new ≡ vec_capacity list.old }
+{
+    list.pop().unwrap()
+}
+
+/// The newest bracket.
+pub(crate) fn innermost(list: &[Bracket]) -> Option<Bracket>
+    ensures { result ≡ innermost (reverse list.now) }
+{
+    list.last().copied()
+}
+
+/// The bracket that encloses it.
+pub(crate) fn enclosing(list: &[Bracket]) -> Option<Bracket>
+    ensures { result ≡ enclosing (reverse list.now) }
+{
+    match list {
+        [.., second, _newest] => Some(*second),
+        _ => None,
+    }
+}
+
+/// Whether some bracket's routine is one that no abort interrupts.
+pub(crate) fn shielded(list: &[Bracket]) -> bool
+    ensures { result ≡ shielded (reverse list.now) }
+{
+    list.iter().rev().copied().any(|bracket| bracket.shields())
+}

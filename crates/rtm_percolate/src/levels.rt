@@ -1,0 +1,270 @@
+ghost use Rattle.std.specs.Prelude.{◌≡◌, ◌<◌, ◌≤◌, ◌↔◌, ◌||◌, ◌&&◌, Bool, not, is_some, length, IsTrue, IsSome, IfSome, IfOk, Some, None};
+ghost use Rattle.rtm_model.specs.Levels.{outermost_alone, innermost, enclosing, routine_of, error_of, current, error_in, error_here, depth_in, is_manager, is_recovery, recovers, record_in, shielded, first_eligible, next_frr, next_estai_at, verdict_in, judged_by, after_error, after_enter, after_setrp, after_leave};
+ghost use Rattle.rtm_model.specs.SetrpCard.{is_setrp_card};
+ghost use Rattle.rtm_percolate.specs.Choices.{choice_for};
+ghost use Rattle.rtm_percolate.specs.Nested.{is_over};
+
+use crate::bracket::{self, Bracket, OUTERMOST};
+use crate::choice::Choice;
+use rtm_chains::{EstaeChain, EstaiList, FrrStack};
+use rtm_codes::NoMemory;
+use rtm_items::{Deck, Setrp};
+use rtm_model::{Kind, Reg, Verdict};
+use rtm_sdwa::Sdwa;
+use std::alloc::Global;
+use std::marker::Model;
+
+/// At most this many brackets of a unit (this profile).
+const MOST_BRACKETS: usize = 16;
+
+/// The brackets of a unit, at most 16 (this profile), each with the routine that runs in it and its open error.
+///
+/// A contract sees them as a list of levels, newest first. The last is the outermost bracket, which is always there and
+/// has no routine. Every other bracket was entered for a recovery routine, and then the error that it was entered for is
+/// open in the enclosing one, or for a resource manager.
+#[derive(Drop)]
+pub struct Levels {
+    list: Vec<Bracket>,
+}
+
+impl Model for Levels {
+    ghost use Rattle.std.specs.Prelude.{◌<◌, ◌≤◌, List, length, reverse, vec_capacity};
+    ghost use Rattle.rtm_model.specs.Levels.{Level};
+    ghost use Rattle.rtm_percolate.specs.Nested.{IsNested};
+
+    ghost Value = { List Level };
+
+    ghost view = { λ a. reverse a.list.items };
+
+    ghost invariant = { λ a. IsNested (reverse a.list.items) × (0 < length a.list.items) × (length a.list.items ≤ 16) × (16 ≤ vec_capacity a.list) };
+}
+
+/// The routine that runs in the bracket, if one is there.
+fn routine_of(bracket: Option<Bracket>) -> Option<Reg>
+    ensures { result ≡ routine_of bracket }
+{
+    match bracket {
+        None => None,
+        Some(bracket) => bracket.routine,
+    }
+}
+
+/// The record of the bracket's open error, if one is there.
+fn error_of(bracket: Option<Bracket>) -> Option<Sdwa>
+    ensures { result ≡ error_of bracket }
+{
+    match bracket {
+        None => None,
+        Some(bracket) => bracket.error,
+    }
+}
+
+fn is_recovery(routine: Option<Reg>) -> bool
+    ensures { result ≡ is_recovery routine }
+{
+    match routine {
+        None => false,
+        Some(reg) => reg.kind != Kind::Mgr,
+    }
+}
+
+/// The verdict by the record of the routine; Over where it has none.
+fn judged_by(deck: &Deck, retry_prog: u16, routine: Option<Reg>, sdwa: Option<Sdwa>) -> Verdict
+    ensures value { result ≡ judged_by deck.now retry_prog routine sdwa }
+    ensures over { is_over result ≡ not (is_some routine && is_some sdwa) }
+{
+    match (routine, sdwa) {
+        (Some(reg), Some(sdwa)) => sdwa.verdict(reg.kind, retry_prog, deck),
+        _ => Verdict::Over,
+    }
+}
+
+/// The first eligible routine for an error of the bracket of that depth.
+fn first_eligible(
+    depth: u8,
+    term_only: bool,
+    frrs: &FrrStack,
+    estaes: &EstaeChain,
+    estais: &EstaiList,
+) -> Option<Reg>
+    ensures { result ≡ first_eligible depth term_only frrs.now estaes.now estais.now }
+{
+    if !term_only && let Some(reg) = frrs.next(depth) {
+        return Some(reg);
+    }
+    if let Some(reg) = estaes.next(depth, term_only) {
+        return Some(reg);
+    }
+    if depth == 0 {
+        estais.next(term_only)
+    } else {
+        None
+    }
+}
+
+impl Levels {
+    /// The outermost bracket alone, and room for 16.
+    pub fn with_room(alloc: Global) -> Result<Levels, NoMemory>
+        ensures { IfOk result (λ levels. levels ≡ outermost_alone) }
+    {
+        let mut list = Vec::with_capacity(alloc, MOST_BRACKETS)?;
+        bracket::put(&mut list, OUTERMOST);
+        Ok(Levels { list })
+    }
+
+    /// Whether an error is open in the newest bracket.
+    pub fn error_here(&self) -> bool
+        ensures { result ≡ error_here self.now }
+    {
+        self.error().is_some()
+    }
+
+    /// The record of the error that is open in the newest bracket.
+    fn error(&self) -> Option<Sdwa>
+        ensures { result ≡ error_in self.now }
+    {
+        error_of(bracket::innermost(&self.list))
+    }
+
+    /// How many brackets enclose the newest one, 0 to 15.
+    pub fn depth(&self) -> u8
+        ensures value { result ≡ depth_in self.now }
+        ensures bound { result < 16 }
+    {
+        (self.list.len() - 1) as u8
+    }
+
+    /// Whether some bracket is an FRR's, a resource manager's, or that of a routine with CANCEL=NO, so that no abort
+    /// interrupts the unit.
+    pub fn shielded(&self) -> bool
+        ensures { result ≡ shielded self.now }
+    {
+        bracket::shielded(&self.list)
+    }
+
+    /// Opens an error in the newest bracket, where none is open.
+    pub fn open_error(&mut self, sdwa: Sdwa)
+        ensures { self.new ≡ after_error sdwa self.old }
+    {
+        let newest = bracket::take(&mut self.list);
+        bracket::put(&mut self.list, newest.with_open(Some(sdwa)));
+    }
+
+    /// What the error that is open in the newest bracket leads to, over the recovery routines of the unit.
+    pub fn choose(&self, frrs: &FrrStack, estaes: &EstaeChain, estais: &EstaiList) -> Choice
+        requires { IsTrue (error_here self.now) }
+        ensures { IfSome (error_in self.now) (λ r. result ≡ choice_for self.now frrs.now estaes.now estais.now r) }
+    {
+        let Some(error) = self.error() else {
+            unreachable!("an error is open");
+        };
+        let term_only = error.flags.ten().term_only;
+        match first_eligible(self.depth(), term_only, frrs, estaes, estais) {
+            Some(reg) => Choice::Enter(reg),
+            None => match self.current() {
+                Some(own) => Choice::FailRoutine(own),
+                None => Choice::Begin(error),
+            },
+        }
+    }
+
+    /// A routine gets control, in a bracket of its own: a recovery routine for the error that is open in the newest
+    /// bracket, or a resource manager.
+    pub fn enter(&mut self, reg: Reg)
+        requires room { length self.old < 16 }
+        requires cause { IsTrue (is_manager reg.kind || error_here self.old) }
+        ensures { self.new ≡ after_enter reg self.old }
+    {
+        bracket::put(
+            &mut self.list,
+            Bracket {
+                routine: Some(reg),
+                error: None,
+            },
+        );
+    }
+
+    /// The routine that runs in the newest bracket, none in the outermost.
+    pub fn current(&self) -> Option<Reg>
+        ensures { result ≡ current self.now }
+    {
+        routine_of(bracket::innermost(&self.list))
+    }
+
+    /// Whether a recovery routine runs in the newest bracket.
+    pub fn recovers(&self) -> bool
+        ensures { result ≡ recovers self.now }
+    {
+        is_recovery(self.current())
+    }
+
+    /// The record of the recovery routine that runs in the newest bracket: that of the error which it was entered for.
+    /// `None` exactly where no recovery routine runs there.
+    pub fn sdwa(&self) -> Option<Sdwa>
+        ensures value { result ≡ record_in self.now }
+        ensures which { IsSome result ↔ IsTrue (recovers self.now) }
+    {
+        if self.recovers() {
+            error_of(bracket::enclosing(&self.list))
+        } else {
+            None
+        }
+    }
+
+    /// SETRP: changes the record of the recovery routine that runs in the newest bracket. False, and no change, exactly
+    /// where none runs there.
+    pub fn setrp(&mut self, card: &Setrp) -> bool
+        requires { IsTrue (is_setrp_card card.now) }
+        ensures which { result ≡ recovers self.old }
+        ensures levels { self.new ≡ after_setrp card.now self.old }
+    {
+        if !self.recovers() {
+            return false;
+        }
+        let newest = bracket::take(&mut self.list);
+        let outer = bracket::take(&mut self.list);
+        bracket::put(&mut self.list, outer.after_setrp(card));
+        bracket::put(&mut self.list, newest);
+        true
+    }
+
+    /// Closes an inner bracket whose routine has ended: its error is retried, percolates, or stays as it is where the
+    /// routine was a resource manager, whose verdict alone is Over. A retry's request block stands in the program
+    /// `retry_prog` of the deck.
+    pub fn leave(&mut self, retry_prog: u16, deck: &Deck) -> Verdict
+        requires { 1 < length self.old }
+        ensures verdict { result ≡ verdict_in deck.now retry_prog self.old }
+        ensures over { is_over result ≡ not (recovers self.old) }
+        ensures levels { self.new ≡ after_leave result self.old }
+    {
+        let verdict = judged_by(deck, retry_prog, self.current(), self.sdwa());
+        self.close(verdict);
+        verdict
+    }
+
+    /// Closes an inner bracket and the error that is open in it: its routine has failed.
+    pub fn fail(&mut self)
+        requires { 1 < length self.old }
+        ensures { self.new ≡ after_leave Verdict.Fail self.old }
+    {
+        self.close(Verdict::Fail);
+    }
+
+    /// Closes an inner bracket with that verdict.
+    pub(crate) fn close(&mut self, verdict: Verdict)
+        requires { 1 < length self.old }
+        ensures { self.new ≡ after_leave verdict self.old }
+    {
+        let newest = bracket::take(&mut self.list);
+        let outer = bracket::take(&mut self.list);
+        bracket::put(&mut self.list, outer.after_verdict(verdict, newest.error));
+    }
+
+    /// The unit has begun to end, or is purged: all errors and inner brackets go.
+    pub fn clear(&mut self)
+        ensures { self.new ≡ outermost_alone }
+    {
+        self.list.clear();
+        bracket::put(&mut self.list, OUTERMOST);
+    }
+}

@@ -1,0 +1,3 @@
+pub mod Words
+pub mod Trimming
+pub mod Reading

@@ -1,0 +1,3 @@
+pub mod Flags
+pub mod Sdwa
+pub mod Bytes

@@ -1,0 +1,12 @@
+//! Which units live, who attached whom, and which events are posted.
+#![tactic(auto)]
+
+mod events;
+mod not_dormant;
+mod task_tree;
+#[cfg(test)]
+mod tests;
+mod unit_life;
+
+pub use not_dormant::NotDormant;
+pub use task_tree::TaskTree;

@@ -1,0 +1,3 @@
+/// The unit was born before: it lives, or has ended.
+#[derive(Clone, Copy, Debug, PartialEq, Eq)]
+pub struct NotDormant;
