@@ -2,19 +2,23 @@
 #![tactic(auto)]
 
 mod abort;
+mod around;
 mod block;
 mod entry;
 mod error_record;
 mod holding;
 pub mod laws;
 mod mark;
+mod outcome;
 mod reg;
 
 pub use abort::Abort;
+pub use around::Around;
 pub use block::{Block, Bracket, Place};
 pub use entry::{Class, End, Entry, Fate, Verdict, What};
 pub use error_record::{ErrorRecord, RecordFlags};
 pub use holding::{Holding, Manager1};
 pub use mark::Mark;
+pub use outcome::Outcome;
 pub use reg::{Full, Kind, Reg};
 pub use rtm_items::Res;

@@ -2,8 +2,8 @@
 #![tactic(auto)]
 
 mod error_steps;
-mod runs;
 mod room;
+mod runs;
 mod stepped;
 mod system;
 mod unit_state;

@@ -10,8 +10,8 @@ use crate::answer::{Answer, answer_to, refusal};
 use crate::outcome::{Outcome, RtmWord, Status};
 use crate::request::{Request, request_of};
 use rtm_codes::NoMemory;
-use rtm_items::Why;
 use rtm_io::{InFault, Sink, Source, read_all, write_all};
+use rtm_items::Why;
 use std::alloc::Global;
 
 /// At most this many bytes are read (this profile).

@@ -1,0 +1,113 @@
+-- Words in which decks and histories are written here: units and programs by number, places by program and operation.
+use Rattle.std.specs.Prelude.{Bool, List, None, Option, Some, false, ℕ}
+use Rattle.rtm_codes.specs.declared.code.Code.{Code}
+use Rattle.rtm_items.specs.View.{ProgramView}
+use Rattle.rtm_items.specs.declared.deck.Command.{Command}
+use Rattle.rtm_items.specs.declared.deck.Line.{Line}
+use Rattle.rtm_items.specs.declared.op.Op.{Op}
+use Rattle.rtm_operands.specs.declared.value.Res.{Res}
+use Rattle.rtm_items.specs.declared.op.Setrp.{Setrp}
+use Rattle.rtm_operands.specs.declared.value.Three.{Three}
+use Rattle.rtm_model.specs.declared.entry.Class.{Class}
+use Rattle.rtm_model.specs.declared.entry.Entry.{Entry}
+use Rattle.rtm_model.specs.declared.entry.Fate.{Fate}
+use Rattle.rtm_model.specs.declared.entry.Verdict.{Verdict}
+use Rattle.rtm_model.specs.declared.entry.Verdict.TheVariants.{Retry}
+use Rattle.rtm_model.specs.declared.entry.What.TheVariants.{Arrive, Begin, Done, Enter, Error, Exec, Land, Leave, MemEnd, Purge, Release}
+use Rattle.rtm_model.specs.declared.mark.Mark.{Mark}
+use Rattle.rtm_model.specs.declared.reg.Kind.{Kind}
+use Rattle.rtm_model.specs.Record.{verdict}
+use Rattle.rtm_model.specs.declared.entry.Class.{Class}
+use Rattle.rtm_items.specs.declared.deck.Unit.{Unit as UnitCard}
+use Rattle.rtm_items.specs.declared.deck.UnitKind.TheVariants.{Task, Srb}
+
+-- Decks
+
+abbrev pub card : Op → Line
+card op = record { label = None; op = op }
+
+abbrev pub labelled : List ℕ → Op → Line
+labelled label op = record { label = Some label; op = op }
+
+abbrev pub program : List ℕ → List Line → ProgramView
+program name lines = record { name = name; lines = lines }
+
+abbrev pub task : List ℕ → ℕ → UnitCard
+task name prog = record { name = name; kind = Task; prog = prog; related = None }
+
+abbrev pub srb : List ℕ → ℕ → Option ℕ → UnitCard
+srb name prog related = record { name = name; kind = Srb; prog = prog; related = related }
+
+abbrev pub cancel : ℕ → ℕ → Bool → Command
+cancel target at dump = record { target = target; at = at; dump = dump }
+
+-- RC=, RETADDR=, REMREC=, COMPCOD=, REASON=, DUMP=, RECORD=, FRESDWA=
+abbrev pub setrp :
+    Option ℕ → Option (List ℕ) → Option Bool → Option Code → Option ℕ → Option Three → Option Three → Option Bool
+    → Setrp
+setrp rc retaddr remrec compcod reason dump logrec fresdwa = record {
+  rc = rc;
+  retaddr = retaddr;
+  remrec = remrec;
+  compcod = compcod;
+  reason = reason;
+  dump = dump;
+  logrec = logrec;
+  fresdwa = fresdwa;
+}
+
+-- Entries, each with its unit first
+
+-- a mark of a code alone
+abbrev pub mark : Code → Mark
+mark code = record { code = code; reason = None; clup = false; perc = false; staf = false }
+
+-- a mark with its reason, CLUP, PERC and STAF
+abbrev pub marked : Code → Option ℕ → Bool → Bool → Bool → Mark
+marked code reason clup perc staf = record { code = code; reason = reason; clup = clup; perc = perc; staf = staf }
+
+abbrev pub exec : ℕ → ℕ → ℕ → ℕ → Entry
+exec u prog op rc = record { unit = u; what = Exec (record { prog = prog; op = op }) rc }
+
+abbrev pub error : ℕ → ℕ → ℕ → Mark → Entry
+error u prog op mark = record { unit = u; what = Error (record { prog = prog; op = op }) mark }
+
+abbrev pub land : ℕ → Class → ℕ → Mark → Entry
+land u class from mark = record { unit = u; what = Land class from mark }
+
+abbrev pub enter : ℕ → Kind → ℕ → Mark → Entry
+enter u kind reg mark = record { unit = u; what = Enter kind reg mark }
+
+abbrev pub retry : ℕ → ℕ → Verdict
+retry prog op = Retry (record { prog = prog; op = op })
+
+-- a routine is left, with LOGREC and DUMP
+abbrev pub leave_with : ℕ → Kind → ℕ → Verdict → Bool → Bool → Entry
+leave_with u kind reg verdict logrec dump = record { unit = u; what = Leave kind reg verdict logrec dump }
+
+-- without either
+abbrev pub leave : ℕ → Kind → ℕ → Verdict → Entry
+leave u kind reg verdict = leave_with u kind reg verdict false false
+
+abbrev pub arrive : ℕ → ℕ → Fate → Entry
+arrive u cmd fate = record { unit = u; what = Arrive cmd fate }
+
+abbrev pub begin : ℕ → Code → Bool → Entry
+begin u code dump = record { unit = u; what = Begin code dump }
+
+abbrev pub release : ℕ → Res → ℕ → ℕ → Entry
+release u class id owner = record { unit = u; what = Release class id owner }
+
+-- a unit has ended, with what became of the aborts to its related task and to the job step task
+abbrev pub done_with : ℕ → Code → Option Fate → Option Fate → Entry
+done_with u code to_task to_step = record { unit = u; what = Done code to_task to_step }
+
+-- without either
+abbrev pub done : ℕ → Code → Entry
+done u code = done_with u code None None
+
+abbrev pub purge : ℕ → ℕ → Entry
+purge u unit = record { unit = u; what = Purge unit }
+
+abbrev pub memend : ℕ → Entry
+memend u = record { unit = u; what = MemEnd }
