@@ -1,4 +1,3 @@
-pub mod Cards
 pub mod Scanning
 pub mod Giving
 pub mod Cuts
@@ -7,6 +6,7 @@ pub mod SeenCards
 pub mod SeenAfter
 pub mod Rules
 pub mod ReadCards
+pub mod Cards
 pub mod FormFaults
 pub mod NameFaults
 pub mod OwnLabels

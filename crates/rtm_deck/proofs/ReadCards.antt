@@ -138,7 +138,7 @@ readable c = record {
 }
 
 -- the forms of one operation have one role
-role_first : (g : CardForm) → role_of (first_form g) ≡ role_of g
+pub role_first : (g : CardForm) → role_of (first_form g) ≡ role_of g
 role_first forms.Region = refl
 role_first forms.Prog = refl
 role_first forms.Pend = refl

@@ -1,14 +1,15 @@
 //! Reading one card.
 
-ghost use Rattle.std.specs.Prelude.{◌≡◌, ◌≤◌, length, map, option_map, is_some, Option, Some, None};
+ghost use Rattle.std.specs.Prelude.{◌≡◌, ◌≤◌, length, map, option_map, is_some, Option, Some, None, IfSome};
 ghost use Rattle.std.specs.List.{AllByRecursion, list_any};
 ghost use Rattle.rtm_cards.specs.Span.{IsWithin, text_of};
 ghost use Rattle.rtm_cards.specs.Cards.{card_text, HasSpansIn};
 ghost use Rattle.rtm_items.specs.Forms.{form_named, operation_of, needs_some};
 ghost use Rattle.rtm_operands.specs.Slot.{IsWellMade};
+ghost use Rattle.rtm_deck.specs.Roles.{role_of};
 ghost use Rattle.rtm_deck.specs.Seen.{enough, read_by, said_as, said_by, read_card, read_with, read_known};
 
-use crate::role::role_of;
+use crate::role::{Role, role_of};
 use crate::seen::Seen;
 use arrayvec::ArrayVec;
 use rtm_cards::{Card, Span};
@@ -144,6 +145,31 @@ fn read_as(
     }
 }
 
+/// The form that was said.
+fn form_of(said: &Option<Said>) -> Option<CardForm>
+    ensures { result ≡ option_map (λ s. s.form) said.now }
+{
+    match said {
+        None => None,
+        Some(said) => Some(said.form),
+    }
+}
+
+/// The role of the cards of that operation. A form of it that is known already saves the search for the first: all have
+/// one role.
+fn role_named(op: &[u8], known: Option<CardForm>) -> Option<Role>
+    requires { IfSome known (λ form. operation_of form ≡ op.now) }
+    ensures { result ≡ option_map role_of (form_named op.now) }
+{
+    if let Some(form) = known {
+        return Some(role_of(form));
+    }
+    match form_named(op) {
+        None => None,
+        Some(form) => Some(role_of(form)),
+    }
+}
+
 /// The card as it is read behind the others, or the first rule of form that it breaks.
 pub(crate) fn read_card(seen: &Seen, bytes: &[u8], card: &Card) -> Result<Read, Why>
     requires { HasSpansIn bytes.now card.now }
@@ -151,11 +177,11 @@ pub(crate) fn read_card(seen: &Seen, bytes: &[u8], card: &Card) -> Result<Read, 
 {
     let op = card.op.text(bytes);
     let name = name_of(card.name.text(bytes));
-    match form_named(op) {
+    let said = said_by(bytes, op, &card.operands, all_forms());
+    match role_named(op, form_of(&said)) {
         None => Err(Why::UnknownOp),
-        Some(form) => {
-            let said = said_by(bytes, op, &card.operands, all_forms());
-            let broken = seen.broken_rule(role_of(form), &name, said.is_some());
+        Some(role) => {
+            let broken = seen.broken_rule(role, &name, said.is_some());
             read_as(card.number, name, said, broken)
         }
     }

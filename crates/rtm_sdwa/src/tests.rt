@@ -180,33 +180,32 @@ fn hands_a_cancel_on(rt: HostRuntime) {
 }
 
 /// A record whose routine asked for that.
-fn asked(flags: u16, rc: Option<u8>, retaddr: Name) -> Sdwa
+fn asked(rc: Option<u8>) -> Sdwa
     requires { IsTrue (is_given_return_code rc) }
 {
-    let mut sdwa = Sdwa::fresh(Code::Sys(0x0c1), None, SdwaFlags::from_bits_retain(flags));
-    sdwa.setrp(&Setrp {
-        rc,
-        retaddr: Some(retaddr),
-        ..NO_OPTIONS
-    });
+    let mut sdwa = Sdwa::fresh(Code::Sys(0x0c1), None, SdwaFlags::of(NO_FLAGS));
+    sdwa.setrp(&Setrp { rc, ..NO_OPTIONS });
     sdwa
 }
 
 /// The table of verdicts, with the place of a retry or none.
 #[test]
 fn judges_by_the_table(rt: HostRuntime) {
-    let again = Name(*b"AGAIN   ");
     let place = Place { prog: 0, op: 2 };
     let cases = [
-        (Kind::Frr, Some(4), Some(place), Verdict::Retry(place)),
-        (Kind::Estae, Some(4), None, Verdict::Bad),
-        (Kind::Estae, Some(16), None, Verdict::Bad),
-        (Kind::Estai, Some(16), None, Verdict::Stop),
-        (Kind::Estai, Some(0), None, Verdict::Perc),
-        (Kind::Frr, None, None, Verdict::Perc),
+        (
+            Kind::Frr,
+            asked(Some(4)),
+            Some(place),
+            Verdict::Retry(place),
+        ),
+        (Kind::Estae, asked(Some(4)), None, Verdict::Bad),
+        (Kind::Estae, asked(Some(16)), None, Verdict::Bad),
+        (Kind::Estai, asked(Some(16)), None, Verdict::Stop),
+        (Kind::Estai, asked(Some(0)), None, Verdict::Perc),
+        (Kind::Frr, asked(None), None, Verdict::Perc),
     ];
-    for (kind, rc, place, want) in cases {
-        let sdwa = asked(0x0000, rc, again);
-        assert_eq!(rt; sdwa.verdict_by(kind, place), want, "at {kind:?} {rc:?}");
+    for (kind, sdwa, place, want) in cases {
+        assert_eq!(rt; sdwa.verdict_by(kind, place), want, "at {kind:?} {sdwa:?}");
     }
 }

@@ -18,6 +18,8 @@ use std::rt::Env;
 use top::plain_words;
 
 #[cfg(test)]
+mod scan_tests;
+#[cfg(test)]
 mod tests;
 
 // The words behind the program's name.
