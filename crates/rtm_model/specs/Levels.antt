@@ -11,7 +11,7 @@ use Rattle.rtm_model.specs.declared.entry.Verdict.TheVariants.{Retry, Perc, Stop
 use Rattle.rtm_model.specs.declared.error_record.ErrorRecord.{ErrorRecord}
 use Rattle.rtm_model.specs.declared.reg.Reg.{Reg}
 use Rattle.rtm_model.specs.declared.reg.Kind.{Kind}
-use Rattle.rtm_model.specs.declared.reg.Kind.TheVariants.{Frr, Estae, Estai, Mgr}
+use Rattle.rtm_model.specs.declared.reg.Kind.TheVariants.{Frr, Mgr}
 use Rattle.rtm_model.specs.Record.{given_or, setrp_in, percolated, inner_failed, verdict}
 use Rattle.rtm_model.specs.Chains.{newest_of, next_estae, next_estai}
 

@@ -25,3 +25,6 @@ pub mod Moments
 pub mod HoldLaw
 pub mod AbortLaw
 pub mod ChainLaw
+pub mod Soundness
+pub mod Applies
+pub mod Fits

@@ -1,0 +1,17 @@
+pub mod Lists
+pub mod Pending
+pub mod Cards
+pub mod Units
+pub mod Own
+pub mod Entries
+pub mod Posted
+pub mod Lives
+pub mod AllUnits
+pub mod Owners
+pub mod Managers
+pub mod Aborts
+pub mod Worlds
+pub mod Beyond
+pub mod Region
+pub mod Start
+pub mod Acts

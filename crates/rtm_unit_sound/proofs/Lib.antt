@@ -1,0 +1,17 @@
+pub mod Lists
+pub mod Places
+pub mod Routines
+pub mod RequestBlocks
+pub mod Owners
+pub mod Records
+pub mod Nesting
+pub mod Parts
+pub mod CardKeeps
+pub mod LeaveKeeps
+pub mod EntryKeeps
+pub mod Units
+pub mod CoresKeep
+pub mod CoresSound
+pub mod CanHandle
+pub mod CanCard
+pub mod CanNext
