@@ -115,6 +115,16 @@ fn block_born(brackets: &[BlockList], born: u32) -> Option<Block>
     }
 }
 
+/// The brackets that enclose the innermost one.
+fn outer(brackets: &[BlockList]) -> &[BlockList]
+    ensures { reverse result.now ≡ without_bracket (reverse brackets.now) }
+{
+    match brackets {
+        [outer @ .., _innermost] => outer,
+        [] => brackets,
+    }
+}
+
 /// How many blocks the innermost bracket has.
 fn block_count(brackets: &[BlockList]) -> usize
     ensures { result ≡ length (newest_bracket (reverse brackets.now)) }
@@ -276,6 +286,35 @@ impl Blocks {
         ensures { result ≡ oldest_birth self.now }
     {
         birth_or_zero(oldest_block(&self.brackets))
+    }
+
+    /// The newest block of the innermost bracket, which is the one that runs, if a block is there.
+    pub fn newest_block(&self) -> Option<Block>
+        ensures { result ≡ newest_block self.now }
+    {
+        newest_block(&self.brackets)
+    }
+
+    /// The birth of the newest block of the bracket that encloses the innermost one, or 0 where no block is there.
+    pub fn outer_newest(&self) -> u32
+        ensures { result ≡ newest_birth (without_bracket self.now) }
+    {
+        birth_or_zero(newest_block(outer(&self.brackets)))
+    }
+
+    /// The birth of the oldest block of the bracket that encloses the innermost one, or 0 where no block is there.
+    pub fn outer_oldest(&self) -> u32
+        ensures { result ≡ oldest_birth (without_bracket self.now) }
+    {
+        birth_or_zero(oldest_block(outer(&self.brackets)))
+    }
+
+    /// The place at which the block of that birth stands, in the bracket that encloses the innermost one. The operation 0
+    /// of the program 0 where it has no such block.
+    pub fn outer_place_of(&self, born: u32) -> Place
+        ensures { result ≡ place_of_born born (without_bracket self.now) }
+    {
+        place_or_none(block_born(outer(&self.brackets), born))
     }
 
     /// The unit has begun to end, or is purged: all brackets go.

@@ -107,6 +107,19 @@ fn finds_blocks_by_birth(rt: HostRuntime) -> Result<(), Fail> {
         assert_eq!(rt; blocks.place_of(born), Place { prog, op: 1 });
     }
     assert_eq!(rt; blocks.place_of(4), Place { prog: 0, op: 0 });
+    assert_eq!(rt; (blocks.outer_newest(), blocks.outer_oldest()), (0, 0));
+    // A routine runs in a bracket of its own, and the other one encloses it.
+    make_step(&mut blocks, Step::Begin(9, 12));
+    assert_eq!(rt; (blocks.newest(), blocks.oldest()), (9, 9));
+    assert_eq!(rt; (blocks.outer_newest(), blocks.outer_oldest()), (3, 0));
+    for (born, prog) in places {
+        assert_eq!(rt; blocks.outer_place_of(born), Place { prog, op: 1 });
+        assert_eq!(rt; blocks.place_of(born), Place { prog: 0, op: 0 });
+    }
+    assert_eq!(rt; blocks.outer_place_of(9), Place { prog: 0, op: 0 });
+    assert_eq!(rt; blocks.newest_block().map(|block| block.born), Some(9));
+    blocks.clear();
+    assert!(rt; blocks.newest_block().is_none());
     Ok(())
 }
 

@@ -1,5 +1,5 @@
 -- Where the newest routine that passes a test stands in a list that has the oldest first.
-use Rattle.std.specs.Prelude.{◌≡◌, ℕ, ◌<◌, Bool, List, length, reverse, Option, Some, None, find, remove, slice_index_or, slice_set}
+use Rattle.std.specs.Prelude.{◌≡◌, ℕ, ◌<◌, Bool, List, length, reverse, Some, None, find, remove, slice_index_or, slice_set}
 use Rattle.rtm_model.specs.declared.reg.Reg.{Reg}
 use Rattle.rtm_model.specs.Chains.{without_first, with_in_place, newest_owned, cancelled, overlaid}
 

@@ -1,5 +1,6 @@
-ghost use Rattle.std.specs.Prelude.{◌≡◌, ◌≤◌, ◌==◌, ◌||◌, ◌↔◌, not, [], ◌∷◌, length, reverse, filter, vec_capacity, IfOk, IfSome, IfNone, IsErr, OnOk, OnErr, None};
+ghost use Rattle.std.specs.Prelude.{◌≡◌, ◌≤◌, ◌==◌, ◌||◌, ◌↔◌, nat_le, not, [], ◌∷◌, length, reverse, filter, vec_capacity, IfOk, IfSome, IfNone, IsErr, OnOk, OnErr, None};
 ghost use Rattle.std.specs.Option.{ok_or};
+ghost use Rattle.rtm_model.specs.Births.{born_at, without_newer_owners};
 ghost use Rattle.rtm_model.specs.Chains.{is_of_depth, is_of_owner, newest_of, newest_owned, if_of_owner, next_estae, cancelled, overlaid, without_first, with_in_place, without_born, without_depth, without_owner, after_xctl};
 ghost use Rattle.rtm_chains.specs.Newest.{IsNewestOwned};
 ghost use Rattle.rtm_chains.specs.Refused.{not_owned};
@@ -49,6 +50,14 @@ fn drop_owner(list: &mut Vec<Routine>, owner: u32)
     ensures capacity { vec_capacity list.new ≡ vec_capacity list.old }
 {
     list.retain(|routine| !routine.is_of_owner(owner));
+}
+
+fn drop_newer_owners(list: &mut Vec<Routine>, born: u32)
+    ensures items { list.new.items ≡ filter (λ reg. nat_le reg.owner born) list.old.items }
+    ensures shorter { length list.new.items ≤ length list.old.items }
+    ensures capacity { vec_capacity list.new ≡ vec_capacity list.old }
+{
+    list.retain(|routine| routine.is_of_older_owner(born));
 }
 
 fn drop_at_xctl(list: &mut Vec<Routine>, owner: u32)
@@ -110,6 +119,14 @@ impl EstaeChain {
         Ok(())
     }
 
+    /// The routine that ESTAEX OV and ESTAEX 0 speak of: the newest of the bracket of that depth, if that request block made
+    /// it.
+    pub fn owned(&self, depth: u8, owner: u32) -> Option<Reg>
+        ensures { result ≡ newest_owned depth owner self.now }
+    {
+        routine::if_of_owner(owner, routine::newest_of(&self.list, depth))
+    }
+
     /// ESTAEX OV: puts a new routine in the place of the newest one of the bracket of that depth, and gives the old one.
     /// `NotOwned` where the bracket has none, or another request block made it.
     pub fn overlay(&mut self, depth: u8, owner: u32, reg: Reg) -> Result<Reg, NotOwned>
@@ -144,6 +161,14 @@ impl EstaeChain {
         drop_owner(&mut self.list, owner);
     }
 
+    /// A retry under the request block of that birth: the routines that newer ones made go, of whatever depth.
+    #[tactic(auto, using(crate::proofs::Backwards::reverse_filter))]
+    pub fn drop_newer_owners(&mut self, born: u32)
+        ensures { self.new ≡ without_newer_owners born self.old }
+    {
+        drop_newer_owners(&mut self.list, born);
+    }
+
     /// XCTL under a request block: of the routines that it made those without XCTL=YES go.
     #[tactic(auto, using(crate::proofs::Backwards::reverse_filter))]
     pub fn over_xctl(&mut self, owner: u32)
@@ -168,11 +193,25 @@ impl EstaeChain {
         routine::reg_of(routine::next_estae(&self.list, depth, term_only))
     }
 
+    /// The routine that was born at that entry.
+    pub fn born_at(&self, born: u32) -> Option<Reg>
+        ensures { result ≡ born_at born self.now }
+    {
+        routine::reg_of(routine::newest_born_at(&self.list, born))
+    }
+
     /// Takes the routine away that was born at that entry, if it is there.
     #[tactic(auto, using(crate::proofs::Backwards::reverse_filter))]
     pub fn remove(&mut self, born: u32)
         ensures { self.new ≡ without_born born self.old }
     {
         drop_born(&mut self.list, born);
+    }
+
+    /// The unit has begun to end, or is purged: all its routines go.
+    pub fn clear(&mut self)
+        ensures { self.new ≡ [] }
+    {
+        self.list.clear();
     }
 }

@@ -1,4 +1,5 @@
 ghost use Rattle.std.specs.Prelude.{◌≡◌, ◌≤◌, ◌==◌, not, [], length, filter, vec_capacity, IfOk};
+ghost use Rattle.rtm_model.specs.Births.{born_at};
 ghost use Rattle.rtm_model.specs.Chains.{next_estai, inherited, without_born};
 
 use crate::routine::{self, Routine};
@@ -68,6 +69,13 @@ impl EstaiList {
         ensures { result ≡ next_estai term_only self.now }
     {
         routine::reg_of(routine::next_estai(&self.list, term_only))
+    }
+
+    /// The routine that was born at that entry.
+    pub fn born_at(&self, born: u32) -> Option<Reg>
+        ensures { result ≡ born_at born self.now }
+    {
+        routine::reg_of(routine::first_born_at(&self.list, born))
     }
 
     /// Takes the routine away that was born at that entry, if it is there.

@@ -1,5 +1,6 @@
 ghost use Rattle.std.specs.Prelude.{◌≡◌, ◌≤◌, ◌==◌, ◌↔◌, not, [], ◌∷◌, length, filter, IsErr, OnOk, OnErr};
 ghost use Rattle.std.specs.Option.{ok_or};
+ghost use Rattle.rtm_model.specs.Births.{born_at};
 ghost use Rattle.rtm_model.specs.Chains.{is_of_depth, newest_of, without_first, with_in_place, without_born, without_depth};
 ghost use Rattle.rtm_chains.specs.Refused.{empty};
 
@@ -124,11 +125,25 @@ impl FrrStack {
         routine::reg_of(routine::newest_of(self.list.as_slice(), depth))
     }
 
+    /// The FRR that was born at that entry.
+    pub fn born_at(&self, born: u32) -> Option<Reg>
+        ensures { result ≡ born_at born self.now }
+    {
+        routine::reg_of(routine::newest_born_at(self.list.as_slice(), born))
+    }
+
     /// Takes the FRR away that was born at that entry, if it is there.
     #[tactic(auto, using(crate::proofs::Backwards::reverse_filter))]
     pub fn remove(&mut self, born: u32)
         ensures { self.new ≡ without_born born self.old }
     {
         drop_born(&mut self.list, born);
+    }
+
+    /// The unit has begun to end, or is purged: all its FRRs go.
+    pub fn clear(&mut self)
+        ensures { self.new ≡ [] }
+    {
+        self.list.clear();
     }
 }

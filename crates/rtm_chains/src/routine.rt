@@ -1,7 +1,8 @@
 //! What a list of routines holds, and walks along such a list: the oldest stands first, the newest last.
 
-ghost use Rattle.std.specs.Prelude.{◌≡◌, ◌<◌, ◌==◌, ◌&&◌, ◌||◌, not, length, reverse, find, position, slice_index_or, slice_set, IfSome, IfNone};
-ghost use Rattle.rtm_model.specs.Chains.{is_of_depth, is_of_owner, is_admitted, newest_of, next_estae, next_estai};
+ghost use Rattle.std.specs.Prelude.{◌≡◌, ◌<◌, ◌==◌, ◌&&◌, ◌||◌, nat_le, not, length, reverse, find, position, slice_index_or, slice_set, IfSome, IfNone};
+ghost use Rattle.rtm_model.specs.Births.{born_at};
+ghost use Rattle.rtm_model.specs.Chains.{is_of_depth, is_of_owner, is_admitted, if_of_owner, newest_of, next_estae, next_estai};
 ghost use Rattle.rtm_chains.specs.Newest.{IsNewest, IsAbsent};
 
 use rtm_model::{Kind, Reg};
@@ -66,6 +67,13 @@ impl Routine {
         !term_only || self.reg.term
     }
 
+    /// Whether a request block made it that isn't newer than the one of that birth.
+    pub(crate) fn is_of_older_owner(&self, born: u32) -> bool
+        ensures { result ≡ nat_le self.now.owner born }
+    {
+        self.reg.owner <= born
+    }
+
     pub(crate) fn outlives_xctl(&self, owner: u32) -> bool
         ensures { result ≡ (not (is_of_owner owner self.now) || self.now.xctl) }
     {
@@ -86,6 +94,35 @@ pub(crate) fn reg_of(routine: Option<Routine>) -> Option<Reg>
         Some(routine) => Some(routine.reg),
         None => None,
     }
+}
+
+/// The routine, where that request block made it.
+pub(crate) fn if_of_owner(owner: u32, routine: Option<Routine>) -> Option<Reg>
+    ensures { result ≡ if_of_owner owner routine }
+{
+    match routine {
+        Some(routine) if routine.is_of_owner(owner) => Some(routine.reg),
+        _ => None,
+    }
+}
+
+/// The first routine that was born at that entry.
+pub(crate) fn first_born_at(list: &[Routine], born: u32) -> Option<Routine>
+    ensures { result ≡ born_at born list.now }
+{
+    list.iter()
+        .copied()
+        .find(|routine| routine.is_born_at(born))
+}
+
+/// The newest routine that was born at that entry.
+pub(crate) fn newest_born_at(list: &[Routine], born: u32) -> Option<Routine>
+    ensures { result ≡ born_at born (reverse list.now) }
+{
+    list.iter()
+        .rev()
+        .copied()
+        .find(|routine| routine.is_born_at(born))
 }
 
 /// The newest routine of the bracket of that depth.

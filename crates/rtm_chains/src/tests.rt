@@ -92,7 +92,14 @@ fn keeps_frrs(rt: HostRuntime) {
         );
         assert!(rt; stack.any() || next == [None, None], "after {step:?}");
     }
+    assert_eq!(rt;
+        births([stack.born_at(17), stack.born_at(11)]),
+        [Some(17), None]
+    );
     stack.purge(1);
+    assert!(rt; !stack.any());
+    assert_eq!(rt; frr_step(&mut stack, FrrStep::Add(19, 0)), Some(19));
+    stack.clear();
     assert!(rt; !stack.any());
 }
 
@@ -114,6 +121,7 @@ enum EstaeStep {
     Overlay(u8, u32, u32),
     Cancel(u8, u32),
     DropOwner(u32),
+    DropNewerOwners(u32),
     OverXctl(u32),
     DropDepth(u8),
     Remove(u32),
@@ -129,6 +137,10 @@ fn estae_step(chain: &mut EstaeChain, step: EstaeStep) -> Option<u32> {
         EstaeStep::Cancel(depth, owner) => chain.cancel(depth, owner).ok().map(|reg| reg.born),
         EstaeStep::DropOwner(owner) => {
             chain.drop_owner(owner);
+            None
+        }
+        EstaeStep::DropNewerOwners(born) => {
+            chain.drop_newer_owners(born);
             None
         }
         EstaeStep::OverXctl(owner) => {
@@ -192,6 +204,13 @@ fn keeps_estaes(rt: HostRuntime) -> Result<(), Fail> {
             [Some(16), Some(25)],
         ),
         (EstaeStep::OverXctl(7), None, [Some(16), Some(24)]),
+        // A retry under the request block 7, which is one older than 8.
+        (
+            EstaeStep::Create(plain(27, 8, 0)),
+            Some(27),
+            [Some(27), Some(24)],
+        ),
+        (EstaeStep::DropNewerOwners(7), None, [Some(16), Some(24)]),
         (EstaeStep::Remove(25), None, [Some(16), Some(24)]),
         (EstaeStep::Remove(16), None, [Some(10), Some(24)]),
         (EstaeStep::DropDepth(1), None, [Some(10), None]),
@@ -215,6 +234,16 @@ fn keeps_estaes(rt: HostRuntime) -> Result<(), Fail> {
         [Some(10), None]
     );
     assert_eq!(rt; chain.cancel(0, 1).err(), Some(NotOwned));
+    assert_eq!(rt;
+        births([chain.owned(0, 0), chain.owned(0, 1)]),
+        [Some(26), None]
+    );
+    assert_eq!(rt;
+        births([chain.born_at(10), chain.born_at(24)]),
+        [Some(10), None]
+    );
+    chain.clear();
+    assert!(rt; chain.next(0, false).is_none());
     Ok(())
 }
 
@@ -253,6 +282,10 @@ fn inherits_sixty_three_estais(rt: HostRuntime) -> Result<(), Fail> {
         assert_eq!(rt;
             births([task.next(false), task.next(true)]),
             [Some(next), Some(40)]
+        );
+        assert_eq!(rt;
+            births([task.born_at(born), task.born_at(next)]),
+            [None, Some(next)]
         );
     }
     assert_eq!(rt;

@@ -1,7 +1,6 @@
 -- Holdings were born before the next entry, whatever is done to them.
-use Rattle.std.proofs.Common.{◌≡◌, ℕ, zero, suc, ◌+◌, ◌<◌, ◌≤◌, Bool, true, false, cond, List, [], ◌∷◌, length, replicate, Result, Ok, Err, OnOk, OnErr, sym, subst, arith}
+use Rattle.std.proofs.Common.{◌≡◌, ℕ, zero, suc, ◌+◌, ◌<◌, ◌≤◌, Bool, true, false, cond, List, [], ◌∷◌, replicate, Result, Ok, Err, OnOk, OnErr, sym, subst, arith}
 use Rattle.std.specs.Prelude.{◌==◌, not, if◌then◌else◌, filter, slice_index_or, slice_set}
-use Rattle.std.specs.List.{AllByRecursion}
 use Rattle.rtm_operands.specs.declared.value.Res.{Res}
 use Rattle.rtm_operands.specs.declared.value.Res.TheVariants.{Enq, Stor, Dsn, Timr}
 use Rattle.rtm_model.specs.declared.holding.Holding.{Holding}

@@ -1,15 +1,14 @@
 -- How many holdings were born at an entry, as the lists change.
-use Rattle.std.proofs.Common.{◌≡◌, ℕ, zero, suc, ◌+◌, ◌-◌, ◌<◌, ◌≤◌, Bool, true, false, cond, List, [], ◌∷◌, length, replicate, reverse, take, drop, Option, Some, None, ◌++◌, slice_get, refl, sym, ap, ◌∙◌, arith}
-use Rattle.std.specs.Prelude.{◌==◌, not, if◌then◌else◌, map, filter, find, slice_index_or, slice_set}
-use Rattle.std.specs.List.{AllByRecursion}
-use Rattle.std.proofs.lemmas.List.{reverse-append, reverse-reverse, take_at, length-reverse, length_push, length-replicate, length-set, set-get_or, drop_all, append-nil, take_all}
+use Rattle.std.proofs.Common.{◌≡◌, ℕ, zero, suc, ◌+◌, ◌-◌, ◌<◌, ◌≤◌, Bool, true, false, cond, List, [], ◌∷◌, length, replicate, reverse, take, drop, Some, ◌++◌, slice_get, refl, sym, ap, ◌∙◌, arith}
+use Rattle.std.specs.Prelude.{◌==◌, not, if◌then◌else◌, map, filter, slice_index_or, slice_set}
+use Rattle.std.proofs.lemmas.List.{reverse-append, reverse-reverse, take_at, length_push, length-replicate, drop_all, append-nil, take_all}
 use Rattle.std.proofs.lemmas.Bool.Decides.{nat_tests}
 use Rattle.std.proofs.lemmas.Bool.{eq-eqb}
 use Rattle.rtm_operands.specs.declared.value.Res.{Res}
 use Rattle.rtm_operands.specs.declared.value.Res.TheVariants.{Enq, Stor, Dsn, Timr}
 use Rattle.rtm_model.specs.declared.holding.Holding.{Holding}
 use Rattle.rtm_model.specs.Chains.{without_first}
-use Rattle.rtm_model.specs.Ending.{Holdings, no_holdings, of_class, on_class, held_by, on_owner, is_of_id, got, freed, without_holding, released_of, released, AreBornBefore, IsHeldBefore, AreHeldBefore}
+use Rattle.rtm_model.specs.Ending.{Holdings, no_holdings, on_class, held_by, is_of_id, got, freed, without_holding, released_of, released, AreBornBefore, IsHeldBefore, AreHeldBefore}
 use Rattle.rtm_ending.specs.View.{births_at, births_of, births_among, AreKept}
 
 -- one or none, by a test

@@ -1,5 +1,5 @@
 -- Where the newest element that passes a test stands in a list that has the oldest first.
-use Rattle.std.specs.Prelude.{◌≡◌, ℕ, ◌<◌, Bool, List, length, reverse, Option, Some, None, find, remove, slice_index_or}
+use Rattle.std.specs.Prelude.{◌≡◌, ℕ, ◌<◌, Bool, List, length, reverse, Some, None, find, remove, slice_index_or}
 use Rattle.rtm_model.specs.Chains.{without_first}
 
 -- the element at i is the newest that passes the test: what it is, and what taking it away leaves

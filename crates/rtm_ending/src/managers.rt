@@ -56,6 +56,12 @@ fn is_equal(manager: &Manager1, prog: u16, task: Option<u16>) -> bool
     manager.prog == prog && is_of_task(manager, task)
 }
 
+fn is_born_at(manager: &Manager1, born: u32) -> bool
+    ensures { result ≡ (manager.now.born == born) }
+{
+    manager.born == born
+}
+
 // How many managers are newer than the newest one of that program and task.
 fn newer_than_newest(list: &[Manager1], prog: u16, task: Option<u16>) -> Option<usize>
     ensures { result ≡ position (is_equal_manager prog task) (reverse list.now) }
@@ -93,6 +99,15 @@ fn newest_of_task(list: &[Manager1], task: Option<u16>) -> Option<Manager1>
         .rev()
         .copied()
         .find(|manager| is_of_task(manager, task))
+}
+
+fn newest_born_at(list: &[Manager1], born: u32) -> Option<Manager1>
+    ensures { result ≡ find (λ manager. manager.born == born) (reverse list.now) }
+{
+    list.iter()
+        .rev()
+        .copied()
+        .find(|manager| is_born_at(manager, born))
 }
 
 fn drop_born(list: &mut Vec<Manager1>, born: u32)
@@ -165,6 +180,13 @@ impl Managers {
         ensures { result ≡ next_manager task self.now }
     {
         newest_of_task(&self.list, task)
+    }
+
+    /// The manager that was born at that entry.
+    pub fn born_at(&self, born: u32) -> Option<Manager1>
+        ensures { result ≡ find (λ manager. manager.born == born) self.now }
+    {
+        newest_born_at(&self.list, born)
     }
 
     /// A manager's routine was left: takes the manager away that was born at that entry, if it is there.

@@ -283,6 +283,8 @@ fn runs_the_newest_manager_first(rt: HostRuntime) -> Result<(), Fail> {
         assert_eq!(rt; born, next, "after {step:?}");
     }
     assert_eq!(rt; managers.find(5, Some(0)).map(|mgr| mgr.born), Some(3));
+    let there = [3, 4].map(|born| managers.born_at(born).map(|mgr| mgr.prog));
+    assert_eq!(rt; there, [Some(5), None]);
     assert_eq!(rt; managers.delete(9, Some(0)), Err(NotFound));
     Ok(())
 }

@@ -4,6 +4,7 @@ ghost use Rattle.std.specs.Prelude.{◌≡◌, ◌+◌, ◌<◌, ◌∷◌, [], 
 ghost use Rattle.std.specs.List.{list_any};
 ghost use Rattle.rtm_model.specs.Record.{setrp_in, percolated, inner_failed};
 ghost use Rattle.rtm_model.specs.Levels.{innermost, enclosing, shields, shielded, on_record, with_open, after_verdict, failed_by};
+ghost use Rattle.rtm_model.specs.Cards.{manages, in_manager};
 ghost use Rattle.rtm_model.specs.SetrpCard.{is_setrp_card};
 ghost use Rattle.std.specs.Prelude.{IsTrue, None, Some};
 
@@ -43,6 +44,16 @@ impl Bracket {
         match self.routine {
             None => false,
             Some(reg) => matches!(reg.kind, Kind::Frr | Kind::Mgr) || !reg.cancel,
+        }
+    }
+
+    /// Whether its routine is a resource manager.
+    pub(crate) fn manages(&self) -> bool
+        ensures { result ≡ manages self.now.routine }
+    {
+        match self.routine {
+            None => false,
+            Some(reg) => reg.kind == Kind::Mgr,
         }
     }
 
@@ -150,4 +161,11 @@ pub(crate) fn shielded(list: &[Bracket]) -> bool
     ensures { result ≡ shielded (reverse list.now) }
 {
     list.iter().rev().copied().any(|bracket| bracket.shields())
+}
+
+/// Whether some bracket's routine is a resource manager.
+pub(crate) fn in_manager(list: &[Bracket]) -> bool
+    ensures { result ≡ in_manager (reverse list.now) }
+{
+    list.iter().rev().copied().any(|bracket| bracket.manages())
 }

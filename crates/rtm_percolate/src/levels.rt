@@ -1,5 +1,6 @@
 ghost use Rattle.std.specs.Prelude.{◌≡◌, ◌<◌, ◌≤◌, ◌↔◌, ◌||◌, ◌&&◌, Bool, not, is_some, length, IsTrue, IsSome, IfSome, IfOk, Some, None};
 ghost use Rattle.rtm_model.specs.Levels.{outermost_alone, innermost, enclosing, routine_of, error_of, current, error_in, error_here, depth_in, is_manager, is_recovery, recovers, record_in, shielded, first_eligible, next_frr, next_estai_at, verdict_in, judged_by, after_error, after_enter, after_setrp, after_leave};
+ghost use Rattle.rtm_model.specs.Cards.{in_manager};
 ghost use Rattle.rtm_model.specs.SetrpCard.{is_setrp_card};
 ghost use Rattle.rtm_percolate.specs.Choices.{choice_for};
 ghost use Rattle.rtm_percolate.specs.Nested.{is_over};
@@ -119,8 +120,8 @@ impl Levels {
         self.error().is_some()
     }
 
-    /// The record of the error that is open in the newest bracket.
-    fn error(&self) -> Option<Sdwa>
+    /// The record of the error that is open in the newest bracket, if one is open there.
+    pub fn error(&self) -> Option<Sdwa>
         ensures { result ≡ error_in self.now }
     {
         error_of(bracket::innermost(&self.list))
@@ -142,12 +143,33 @@ impl Levels {
         bracket::shielded(&self.list)
     }
 
+    /// Whether some bracket is a resource manager's.
+    pub fn in_manager(&self) -> bool
+        ensures { result ≡ in_manager self.now }
+    {
+        bracket::in_manager(&self.list)
+    }
+
     /// Opens an error in the newest bracket, where none is open.
     pub fn open_error(&mut self, sdwa: Sdwa)
         ensures { self.new ≡ after_error sdwa self.old }
     {
         let newest = bracket::take(&mut self.list);
         bracket::put(&mut self.list, newest.with_open(Some(sdwa)));
+    }
+
+    /// The recovery routine that gets control first for an error of the newest bracket, of those with TERM=YES alone and no
+    /// FRR where `term_only`.
+    pub fn first_eligible(
+        &self,
+        term_only: bool,
+        frrs: &FrrStack,
+        estaes: &EstaeChain,
+        estais: &EstaiList,
+    ) -> Option<Reg>
+        ensures { result ≡ first_eligible (depth_in self.now) term_only frrs.now estaes.now estais.now }
+    {
+        first_eligible(self.depth(), term_only, frrs, estaes, estais)
     }
 
     /// What the error that is open in the newest bracket leads to, over the recovery routines of the unit.
@@ -159,7 +181,7 @@ impl Levels {
             unreachable!("an error is open");
         };
         let term_only = error.flags.ten().term_only;
-        match first_eligible(self.depth(), term_only, frrs, estaes, estais) {
+        match self.first_eligible(term_only, frrs, estaes, estais) {
             Some(reg) => Choice::Enter(reg),
             None => match self.current() {
                 Some(own) => Choice::FailRoutine(own),
@@ -228,6 +250,15 @@ impl Levels {
         true
     }
 
+    /// The verdict with which the routine of the newest bracket would be left now: by its record, and Over exactly where no
+    /// recovery routine runs there. A retry's request block stands in the program `retry_prog` of the deck.
+    pub fn verdict(&self, retry_prog: u16, deck: &Deck) -> Verdict
+        ensures value { result ≡ verdict_in deck.now retry_prog self.now }
+        ensures over { is_over result ≡ not (recovers self.now) }
+    {
+        judged_by(deck, retry_prog, self.current(), self.sdwa())
+    }
+
     /// Closes an inner bracket whose routine has ended: its error is retried, percolates, or stays as it is where the
     /// routine was a resource manager, whose verdict alone is Over. A retry's request block stands in the program
     /// `retry_prog` of the deck.
@@ -237,7 +268,7 @@ impl Levels {
         ensures over { is_over result ≡ not (recovers self.old) }
         ensures levels { self.new ≡ after_leave result self.old }
     {
-        let verdict = judged_by(deck, retry_prog, self.current(), self.sdwa());
+        let verdict = self.verdict(retry_prog, deck);
         self.close(verdict);
         verdict
     }
@@ -250,8 +281,8 @@ impl Levels {
         self.close(Verdict::Fail);
     }
 
-    /// Closes an inner bracket with that verdict.
-    pub(crate) fn close(&mut self, verdict: Verdict)
+    /// Closes an inner bracket with that verdict on its routine.
+    pub fn close(&mut self, verdict: Verdict)
         requires { 1 < length self.old }
         ensures { self.new ≡ after_leave verdict self.old }
     {

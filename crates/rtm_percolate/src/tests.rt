@@ -173,6 +173,10 @@ fn asks(rc: u8) -> Setrp
 fn closes_by_verdict(rt: HostRuntime) -> Result<(), Fail> {
     let mut levels = Levels::with_room(rt.alloc())?;
     levels.open_error(abend());
+    assert_eq!(rt;
+        levels.error().map(|sdwa| sdwa.code),
+        Some(Code::Sys(0x0c1))
+    );
     levels.enter(routine(Kind::Estai, 1, 0, false));
     assert!(rt; levels.setrp(&asks(16)) && levels.recovers());
     levels.close(Verdict::Stop);
@@ -189,7 +193,9 @@ fn closes_by_verdict(rt: HostRuntime) -> Result<(), Fail> {
     assert!(rt; !levels.error_here());
     levels.enter(routine(Kind::Mgr, 4, 0, false));
     assert!(rt; !levels.setrp(&asks(4)) && levels.sdwa().is_none());
+    assert!(rt; levels.in_manager());
     levels.close(Verdict::Over);
+    assert!(rt; !levels.in_manager() && levels.error().is_none());
     assert_eq!(rt; (levels.depth(), levels.current().is_none()), (0, true));
     Ok(())
 }

@@ -1,7 +1,8 @@
 ghost use Rattle.std.specs.Prelude.{◌≡◌, IsTrue};
 ghost use Rattle.std.specs.Option.{unwrap_or};
 ghost use Rattle.rtm_codes.specs.Code.{IsInRange};
-ghost use Rattle.rtm_model.specs.Record.{fresh, mark_of, set_by, setrp_in, asked_nothing, percolated, after_failure, taken_over, inner_failed, retry_place, verdict_by, verdict};
+ghost use Rattle.rtm_model.specs.NextEntry.{card_record, landed_flags, landed_record};
+ghost use Rattle.rtm_model.specs.Record.{no_flags, fresh, mark_of, set_by, setrp_in, asked_nothing, percolated, after_failure, taken_over, inner_failed, retry_place, verdict_by, verdict};
 ghost use Rattle.rtm_model.specs.SetrpCard.{is_return_code, is_given_return_code, is_given_abend, is_setrp_card};
 ghost use Rattle.rtm_sdwa.specs.Flags.{flags_of};
 ghost use Rattle.rtm_sdwa.specs.Sdwa.{IsKept, IsOnRecord};
@@ -9,7 +10,7 @@ ghost use Rattle.rtm_sdwa.specs.Sdwa.{IsKept, IsOnRecord};
 use crate::flags::SdwaFlags;
 use rtm_codes::Code;
 use rtm_items::{Deck, Name, Setrp, Three};
-use rtm_model::{Kind, Mark, Place, RecordFlags, Verdict};
+use rtm_model::{Abort, Kind, Mark, Place, RecordFlags, Verdict};
 use std::marker::Model;
 
 /// The record of an error, the SDWA (Authorized Assembler Services Guide, "Providing recovery").
@@ -110,6 +111,36 @@ fn rc_or(given: Option<u8>, rc: u8) -> u8
     }
 }
 
+/// No flag.
+fn no_flags() -> RecordFlags
+    ensures { result ≡ no_flags }
+{
+    RecordFlags {
+        clup: false,
+        perc: false,
+        staf: false,
+        step: false,
+        reason: false,
+        term_only: false,
+        dump: false,
+        remrec: false,
+        logrec: false,
+        fresdwa: false,
+    }
+}
+
+/// What a landed abort asks for.
+fn landed_flags(abort: &Abort) -> RecordFlags
+    ensures { result ≡ landed_flags abort.now }
+{
+    RecordFlags {
+        clup: !abort.retry,
+        term_only: abort.term_only,
+        dump: abort.dump,
+        ..no_flags()
+    }
+}
+
 /// What a routine asked for is forgotten.
 fn asked_nothing(flags: RecordFlags) -> RecordFlags
     ensures { result ≡ asked_nothing flags }
@@ -141,6 +172,28 @@ impl Sdwa {
             rc: 0,
             retaddr: None,
         }
+    }
+
+    /// The record of a card's error at first: no retry where the unit is doomed (this profile).
+    pub fn of_card(doomed: bool, code: Code, reason: Option<u32>, dump: bool, step: bool) -> Sdwa
+        requires { IsInRange code }
+        ensures { result ≡ card_record doomed code reason dump step }
+    {
+        let flags = RecordFlags {
+            clup: doomed,
+            dump,
+            step,
+            ..no_flags()
+        };
+        Sdwa::fresh(code, reason, SdwaFlags::of(flags))
+    }
+
+    /// The record of an abort that lands, at first.
+    pub fn of_abort(abort: &Abort) -> Sdwa
+        requires { IsInRange abort.now.code }
+        ensures { result ≡ landed_record abort.now }
+    {
+        Sdwa::fresh(abort.code, abort.reason, SdwaFlags::of(landed_flags(abort)))
     }
 
     /// SETRP: what the card's options name is changed (Assembler Services Reference, SETRP).

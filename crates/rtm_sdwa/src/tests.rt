@@ -5,7 +5,7 @@ use crate::{Sdwa, SdwaFlags, sdwa_bytes, sdwa_read};
 use bitflags::Flags;
 use rtm_codes::Code;
 use rtm_items::{Name, Setrp, Three};
-use rtm_model::{Kind, Place, RecordFlags, Verdict};
+use rtm_model::{Abort, Class, Kind, Place, RecordFlags, Verdict};
 use std::test::Fail;
 
 fn is_send<T: Send>() {}
@@ -61,6 +61,62 @@ fn each_flag_has_its_bit(rt: HostRuntime) {
         assert!(rt; SdwaFlags::from_bits_retain(bit).is_of_ten(), "at {name}");
     }
     assert!(rt; !SdwaFlags::from_bits_retain(0x0020).is_of_ten());
+}
+
+/// What the errors of cards, and the aborts that land, ask for at first.
+#[test]
+fn starts_with_what_is_asked_for(rt: HostRuntime) {
+    let abort = Abort {
+        class: Class::Detach,
+        from: 3,
+        code: Code::Sys(0x13e),
+        reason: Some(8),
+        dump: true,
+        retry: false,
+        term_only: true,
+    };
+    let mild = Abort {
+        class: Class::Abterm,
+        from: 4,
+        code: Code::User(5),
+        reason: None,
+        dump: false,
+        retry: true,
+        term_only: false,
+    };
+    let cases = [
+        (
+            Sdwa::of_card(true, Code::Sys(0x0c4), Some(16), false, true),
+            RecordFlags {
+                clup: true,
+                step: true,
+                reason: true,
+                ..NO_FLAGS
+            },
+        ),
+        (
+            Sdwa::of_card(false, Code::User(7), None, true, false),
+            RecordFlags {
+                dump: true,
+                ..NO_FLAGS
+            },
+        ),
+        (
+            Sdwa::of_abort(&abort),
+            RecordFlags {
+                clup: true,
+                reason: true,
+                term_only: true,
+                dump: true,
+                ..NO_FLAGS
+            },
+        ),
+        (Sdwa::of_abort(&mild), NO_FLAGS),
+    ];
+    for (sdwa, flags) in cases {
+        assert_eq!(rt; sdwa.flags, SdwaFlags::of(flags), "at {sdwa:?}");
+        assert!(rt; sdwa.rc == 0 && sdwa.retaddr.is_none(), "at {sdwa:?}");
+    }
 }
 
 /// The bytes of an 0C4 with the reason 10, and of a user abend 4095 after a label was set.

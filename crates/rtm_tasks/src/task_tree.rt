@@ -1,4 +1,4 @@
-ghost use Rattle.std.specs.Prelude.{◌≡◌, ◌+◌, ◌-◌, ◌^◌, ◌<◌, ◌↔◌, ◌==◌, ℕ, not, false, true, length, map, List, [], Some, None, IfOk, IsErr, OnOk, OnErr, slice_set, slice_index, slice_index_or, vec_len};
+ghost use Rattle.std.specs.Prelude.{◌≡◌, ◌+◌, ◌-◌, ◌^◌, ◌<◌, ◌≤◌, ◌↔◌, ◌==◌, ℕ, not, false, true, length, map, position, List, [], Some, None, IfOk, IfSome, IsErr, OnOk, OnErr, slice_set, slice_index, slice_index_or, vec_len};
 ghost use Rattle.std.specs.List.{count_by};
 ghost use Rattle.rtm_model.specs.Tasks.{Life, Dormant, Lives, is_dormant, is_living, has_ended, mother_of, living_mother, is_number, is_subtask_of, life_of, has_subtask, with_birth, ended_life, with_end, lives_at_start, is_posted, with_event, tree_at_start};
 ghost use Rattle.rtm_tasks.specs.Counts.{AreCounts};
@@ -98,6 +98,23 @@ fn living_mother(lives: &[UnitLife], unit: u16) -> Option<u16>
     match lives.get(unit as usize) {
         Some(life) => life.living_mother(),
         None => None,
+    }
+}
+
+/// The number of the first unit that lives.
+fn first_living(lives: &[UnitLife]) -> Option<usize>
+    ensures which { result ≡ position is_living lives.now }
+    ensures within { IfSome result (λ unit. unit < length lives.now) }
+{
+    lives.iter().position(|life| life.is_living())
+}
+
+fn is_number(number: u16, option: Option<u16>) -> bool
+    ensures { result ≡ is_number number option }
+{
+    match option {
+        Some(other) => other == number,
+        None => false,
     }
 }
 
@@ -253,6 +270,31 @@ impl TaskTree {
         ensures { result ≡ mother_of (life_of unit self.now.lives) }
     {
         mother_of(&self.lives, unit)
+    }
+
+    /// Whether the unit of the number `mother` attached the unit, which still lives or does not.
+    pub fn attached(&self, mother: u16, unit: u16) -> bool
+        ensures { result ≡ is_number mother (mother_of (life_of unit self.now.lives)) }
+    {
+        is_number(mother, mother_of(&self.lives, unit))
+    }
+
+    /// Whether the unit lives and the unit of the number `mother` attached it.
+    pub fn is_subtask(&self, mother: u16, unit: u16) -> bool
+        ensures { result ≡ is_subtask_of mother (life_of unit self.now.lives) }
+    {
+        is_number(mother, living_mother(&self.lives, unit))
+    }
+
+    /// The unit of the least number that lives, which memory end purges next. None where no unit lives.
+    pub fn first_living(&self) -> Option<u16>
+        requires few { length self.now.lives ≤ 2 ^ 16 }
+        ensures { result ≡ position is_living self.now.lives }
+    {
+        match first_living(&self.lives) {
+            Some(unit) => Some(unit as u16),
+            None => None,
+        }
     }
 
     /// Whether the unit was born and has not ended.

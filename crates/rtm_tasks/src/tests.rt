@@ -67,29 +67,45 @@ fn stands(tree: &TaskTree, unit: u16) -> u8 {
     }
 }
 
+/// The first unit that lives, of a tree of few units.
+fn first_living(tree: &TaskTree) -> Option<u16> {
+    if tree.unit_count() > 5 {
+        return None;
+    }
+    tree.first_living()
+}
+
 #[test]
 fn units_are_born_once(rt: HostRuntime) -> Result<(), Fail> {
     let mut tree = TaskTree::of_units(rt.alloc(), &units(), 1)?;
-    // After each step: what it answers, and how each unit stands.
+    // After each step: what it answers, how each unit stands, and which is the first that lives.
     let steps = [
-        (Step::Start, true, b".L..."),
-        (Step::Attach(1, 1), false, b".L..."),
-        (Step::Attach(1, 3), true, b".l.L."),
-        (Step::Attach(3, 3), false, b".l.L."),
-        (Step::Attach(3, 2), true, b".lLl."),
-        (Step::Schedule(0), true, b"LlLl."),
-        (Step::Schedule(0), false, b"LlLl."),
-        (Step::End(3), true, b"LLLe."),
-        (Step::Attach(1, 3), false, b"LLLe."),
-        (Step::End(2), true, b"LLEE."),
-        (Step::End(2), true, b"LLEE."),
-        (Step::End(4), true, b"LLEE."),
-        (Step::Schedule(4), true, b"LLEEL"),
-        (Step::End(0), true, b"ELEEL"),
-        (Step::End(1), true, b"EEEEL"),
+        (Step::Start, true, b".L...", Some(1)),
+        (Step::Attach(1, 1), false, b".L...", Some(1)),
+        (Step::Attach(1, 3), true, b".l.L.", Some(1)),
+        (Step::Attach(3, 3), false, b".l.L.", Some(1)),
+        (Step::Attach(3, 2), true, b".lLl.", Some(1)),
+        (Step::Schedule(0), true, b"LlLl.", Some(0)),
+        (Step::Schedule(0), false, b"LlLl.", Some(0)),
+        (Step::End(3), true, b"LLLe.", Some(0)),
+        (Step::Attach(1, 3), false, b"LLLe.", Some(0)),
+        (Step::End(2), true, b"LLEE.", Some(0)),
+        (Step::End(2), true, b"LLEE.", Some(0)),
+        (Step::End(4), true, b"LLEE.", Some(0)),
+        (Step::Schedule(4), true, b"LLEEL", Some(0)),
+        (Step::End(0), true, b"ELEEL", Some(1)),
+        (Step::End(1), true, b"EEEEL", Some(4)),
+        (Step::End(4), true, b"EEEEE", None),
     ];
-    for (step, answer, all) in steps {
+    for (step, answer, all, first) in steps {
         assert_eq!(rt; make_step(&mut tree, step), answer, "at {step:?}");
+        assert_eq!(rt; first_living(&tree), first, "after {step:?}");
+        // The task 3 has one subtask alone, the task 2.
+        assert_eq!(rt;
+            tree.is_subtask(3, 2),
+            tree.subtasks_left(3),
+            "after {step:?}"
+        );
         for unit in 0..5 {
             assert_eq!(rt;
                 stands(&tree, unit),
@@ -98,6 +114,7 @@ fn units_are_born_once(rt: HostRuntime) -> Result<(), Fail> {
             );
         }
     }
+    assert!(rt; tree.attached(3, 2) && !tree.attached(2, 3) && !tree.attached(0, 1));
     // Who attached whom stays for good.
     let mothers = [None, None, Some(3), Some(1), None, None];
     for unit in 0..6 {

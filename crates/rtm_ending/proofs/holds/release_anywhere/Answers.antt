@@ -1,4 +1,4 @@
-use Rattle.std.proofs.Common.{◌≡◌, ◌+◌, ◌<◌, ◌++◌, ◌∙◌, ℕ, suc, List, length, ap, sym, map, take, drop, arith}
+use Rattle.std.proofs.Common.{◌≡◌, ◌+◌, ◌<◌, ◌++◌, ◌∙◌, ℕ, suc, List, length, ap, map, take, drop, arith}
 use Rattle.std.specs.Prelude.{slice_set, slice_index_or}
 use Rattle.rtm_model.specs.Ending.{Holdings, released_of}
 use Rattle.rtm_ending.proofs.Births.{map_further}

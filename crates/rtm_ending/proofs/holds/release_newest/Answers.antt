@@ -1,7 +1,7 @@
-use Rattle.std.proofs.Common.{◌≡◌, rules, ◌≤◌, ◌<◌, ◌∙◌, ℕ, List, length, ap, sym, arith}
-use Rattle.std.specs.Prelude.{slice_set, slice_index_or}
-use Rattle.rtm_model.specs.Ending.{Holdings, released_of, released}
-use Rattle.rtm_ending.specs.View.{births_of, births_among}
+use Rattle.std.proofs.Common.{rules, ◌≤◌, ◌<◌, ◌∙◌, length, ap, arith}
+use Rattle.std.specs.Prelude.{slice_set}
+use Rattle.rtm_model.specs.Ending.{Holdings, released}
+use Rattle.rtm_ending.specs.View.{births_among}
 use Rattle.rtm_ending.proofs.Births.{births_at_index, released_one}
 use Rattle.rtm_ending.proofs.holds.release_newest.Goals as goal
 

@@ -1,5 +1,5 @@
-use Rattle.std.proofs.Common.{◌≡◌, ◌+◌, sym, subst, arith}
-use Rattle.rtm_model.specs.Ending.{freed, AreHeldBefore}
+use Rattle.std.proofs.Common.{◌+◌, sym, subst, arith}
+use Rattle.rtm_model.specs.Ending.{AreHeldBefore}
 use Rattle.rtm_ending.specs.View.{HoldsView}
 use Rattle.rtm_ending.proofs.Before.{held_before_next, freed_before, later_before}
 use Rattle.rtm_ending.proofs.tests.hold_step.Goals as goal

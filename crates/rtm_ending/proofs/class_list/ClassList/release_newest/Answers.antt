@@ -1,7 +1,6 @@
-use Rattle.std.proofs.Common.{◌≡◌, ◌≤◌, ◌-◌, ◌∙◌, sym, ap, subst, reverse, length, take, arith, ℕ, List, vec_len}
+use Rattle.std.proofs.Common.{◌≡◌, ◌-◌, ◌∙◌, sym, ap, reverse, length, take, ℕ, List, vec_len}
 use Rattle.std.proofs.lemmas.List.{reverse-reverse}
 use Rattle.rtm_model.specs.declared.holding.Holding.{Holding}
-use Rattle.rtm_ending.specs.View.{births_at}
 use Rattle.rtm_ending.proofs.Births.{popped}
 use Rattle.rtm_ending.proofs.class_list.ClassList.release_newest.Goals as goal
 

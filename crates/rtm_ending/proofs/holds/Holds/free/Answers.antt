@@ -1,4 +1,3 @@
-use Rattle.std.proofs.Common.{◌≡◌}
 use Rattle.std.proofs.lemmas.List.{length-set}
 use Rattle.rtm_ending.proofs.Births.{kept_fewer, births-freed}
 use Rattle.rtm_ending.proofs.holds.Holds.free.Goals as goal

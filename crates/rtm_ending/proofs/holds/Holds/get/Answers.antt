@@ -1,7 +1,7 @@
-use Rattle.std.proofs.Common.{◌≡◌, ◌<◌, ◌≤◌, ◌∙◌, sym, ap, arith, ℕ, List, length, slice_index_or}
+use Rattle.std.proofs.Common.{◌≡◌, ◌<◌, ◌≤◌, ap, arith, length}
 use Rattle.std.proofs.lemmas.List.{get_or_read, length-set}
-use Rattle.rtm_model.specs.Ending.{Holdings, no_holdings, held_count, held_by, got, AreHeldBefore}
-use Rattle.rtm_ending.specs.View.{HoldsView, AreKept}
+use Rattle.rtm_model.specs.Ending.{no_holdings, held_count, held_by, AreHeldBefore}
+use Rattle.rtm_ending.specs.View.{HoldsView}
 use Rattle.rtm_ending.proofs.Births.{kept_got}
 use Rattle.rtm_ending.proofs.holds.Holds.get.Goals as goal
 
