@@ -1,8 +1,9 @@
 -- How a card is read, from its parts.
-use Rattle.std.proofs.Common.{◌≡◌, ◌∙◌, sym, ap, subst, refl, ℕ, Bool, List, Option, Some, None, is_some}
+use Rattle.std.proofs.Common.{◌≡◌, ◌∙◌, sym, ap, refl, ℕ, Bool, List, Option, Some, None, is_some}
 use Rattle.std.specs.Prelude.{Result, Err, IfSome}
 use Rattle.std.specs.Option.{option_map}
 use Rattle.rtm_cards.specs.Cards.{CardText}
+use Rattle.rtm_operands.specs.declared.value.Value.{Value}
 use Rattle.rtm_operands.specs.Reading.{name_in}
 use Rattle.rtm_items.specs.declared.why.Why.{Why}
 use Rattle.rtm_items.specs.declared.form.CardForm.{CardForm}
@@ -13,7 +14,7 @@ use Rattle.rtm_deck.specs.declared.role.Role.{Role}
 use Rattle.rtm_deck.proofs.ReadCards.{said_found, role_first}
 use Rattle.rtm_deck.specs.View.{ReadView, SeenView}
 use Rattle.rtm_deck.specs.Roles.{role_of}
-use Rattle.rtm_deck.specs.Seen.{SaidView, said_by, broken_rule, read_with, read_known, read_card}
+use Rattle.rtm_deck.specs.Seen.{SaidView, said_in, said_by, broken_rule, read_with, read_known, read_card}
 
 -- a card whose operation is known, read from its parts
 pub read_card-parts : (s : SeenView) (c : CardText) (form : CardForm) (name : Option (List ℕ)) (said : Option SaidView) (readable : Bool) (broken : Option Why) (r : Result ReadView Why) →
@@ -24,10 +25,15 @@ read_card-parts s c form name said readable broken r f n t e b is =
     let b2 : broken ≡ broken_rule s (role_of form) (name_in c.name) (is_some (said_by c.op c.operands all_forms)) = b ∙ (λ j. broken_rule s (role_of form) (n j) (e2 j)) in
     is ∙ ((λ j. read_with c.number (n j) (t j) (b2 j)) ∙ sym (ap (read_known s c) f))
 
--- a form that is known has the operation
-pub known_names : (op : List ℕ) (operands : List (List ℕ)) (o : Option SaidView) → said_by op operands all_forms ≡ o → IfSome (option_map (λ s. s.form) o) (λ form. operation_of form ≡ op)
-known_names op operands None e = tt
-known_names op operands (Some s) e = (said_found op operands all_forms s e).0
+-- a form by which operands say something has the operation
+pub known_names : (op : List ℕ) (operands : List (List ℕ)) (form : Option CardForm) (values : List (Option Value)) → said_in form values ≡ said_by op operands all_forms → IfSome form (λ form. operation_of form ≡ op)
+known_names op operands None values e = tt
+known_names op operands (Some form) values e = (said_found op operands all_forms (record { form = form; values = values }) (sym e)).0
+
+-- operands say something exactly where a form reads them
+pub read_by_some : (form : Option CardForm) (values : List (Option Value)) → is_some form ≡ is_some (said_in form values)
+read_by_some None values = refl
+read_by_some (Some form) values = refl
 
 -- and the role of all forms of it
 pub known_role : (op : List ℕ) (form : CardForm) → operation_of form ≡ op → Some (role_of form) ≡ option_map role_of (form_named op)

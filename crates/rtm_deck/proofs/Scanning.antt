@@ -27,7 +27,7 @@ commands-after s End name n h = omega arith
 commands-after s Line name n h = omega arith
 
 -- the cards that are left are the next and the others
-drop-next : {X : Type 0} (xs : List X) (i : ℕ) (x : X) → i < length xs → drop i xs ≡ get_or xs i x ∷ drop (i + 1) xs
+pub drop-next : {X : Type 0} (xs : List X) (i : ℕ) (x : X) → i < length xs → drop i xs ≡ get_or xs i x ∷ drop (i + 1) xs
 drop-next xs i x h = drop-cons xs i x h ∙ ap (λ k. get_or xs i x ∷ drop k xs) (sym (add-one i))
 
 -- behind a card that is read the others come to what all do

@@ -1,5 +1,5 @@
 -- The deck that cards say, whose names are all there.
-use Rattle.std.specs.Prelude.{ℕ, if◌then◌else◌, List, [], ◌∷◌, Option, Some, None, unwrap_or, filter_map}
+use Rattle.std.specs.Prelude.{ℕ, ◌+◌, if◌then◌else◌, List, [], ◌∷◌, Option, Some, None, unwrap_or, filter_map}
 use Rattle.rtm_items.specs.declared.deck.Line.{Line as LineCard}
 use Rattle.rtm_items.specs.declared.deck.Unit.{Unit as UnitCard}
 use Rattle.rtm_items.specs.declared.deck.Command.{Command as CommandCard}
@@ -15,6 +15,11 @@ use Rattle.rtm_deck.specs.Operations.{op_of, named_at, named_in, number_at, flag
 -- the card of a program
 abbrev pub line_of : SeenView → ReadView → LineCard
 line_of s r = record { label = r.name; op = op_of s r.form r.values }
+
+-- how many cards stand before the first that is none of a program
+abbrev pub line_count : List ReadView → ℕ
+line_count [] = 0
+line_count (r ∷ rs) = if is_line (role_of r.form) then 1 + line_count rs else 0
 
 -- the cards of a program, up to the first that is none
 abbrev pub lines_from : SeenView → List ReadView → List LineCard

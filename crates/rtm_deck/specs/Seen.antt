@@ -1,5 +1,5 @@
 -- What the reader keeps of the cards before, and the first rule of form that a card breaks behind them.
-use Rattle.std.specs.Prelude.{ℕ, ◌+◌, Bool, true, false, not, ◌&&◌, ◌||◌, ◌==◌, nat_le, if◌then◌else◌, List, [], ◌∷◌, ◌++◌, length, Option, Some, None, bytes_eq, Result, Ok, Err}
+use Rattle.std.specs.Prelude.{◌≡◌, ℕ, ◌+◌, Bool, true, false, not, ◌&&◌, ◌||◌, ◌==◌, nat_le, if◌then◌else◌, List, [], ◌∷◌, ◌++◌, length, Option, Some, None, bytes_eq, Result, Ok, Err}
 use Rattle.std.specs.List.{list_any}
 use Rattle.std.specs.Option.{option_map_or, option_or}
 use Rattle.std.specs.Prelude.{option_map, option_and_then, is_some}
@@ -109,6 +109,11 @@ abbrev pub read_by : List Slot → Bool → List (List ℕ) → Option (List (Op
 read_by [] wanted operands = enough wanted []
 read_by (slot ∷ slots) wanted operands = option_and_then (enough wanted) (read_slots (slot ∷ slots) operands)
 
+-- the values, where they were read
+abbrev pub given : Bool → List (Option Value) → Option (List (Option Value))
+given true values = Some values
+given false values = None
+
 abbrev pub said : CardForm → Option (List (Option Value)) → Option SaidView
 said form values = option_map (λ v. record { form = form; values = v }) values
 
@@ -120,6 +125,15 @@ said_as op operands form = if bytes_eq (operation_of form) op then said form (re
 abbrev pub said_by : List ℕ → List (List ℕ) → List CardForm → Option SaidView
 said_by op operands [] = None
 said_by op operands (form ∷ forms) = option_or (said_as op operands form) (said_by op operands forms)
+
+-- what is said by a form and its values
+abbrev pub said_in : Option CardForm → List (Option Value) → Option SaidView
+said_in None values = None
+said_in (Some form) values = Some (record { form = form; values = values })
+
+-- By these forms a card of that operation says what it says by all forms.
+abbrev pub AreEnough : List ℕ → List CardForm → Type 0
+AreEnough op forms = (operands : List (List ℕ)) → said_by op operands forms ≡ said_by op operands all_forms
 
 -- a card of that number and name that breaks no rule, as it is read
 abbrev pub read_with : ℕ → Option (List ℕ) → Option SaidView → Option Why → Result ReadView Why
@@ -136,3 +150,8 @@ read_known s c (Some form) =
 -- the card as it is read behind the others, or the first rule that it breaks
 abbrev pub read_card : SeenView → CardText → Result ReadView Why
 read_card s c = read_known s c (form_named c.op)
+
+-- the card as it is read, from its name and form, and its values
+abbrev pub read_in : ℕ → Result (Option (List ℕ) × CardForm) Why → List (Option Value) → Result ReadView Why
+read_in number (Err why) values = Err why
+read_in number (Ok head) values = Ok (record { number = number; name = head.0; form = head.1; values = values })

@@ -3,7 +3,7 @@
 ghost use Rattle.std.specs.Prelude.{◌≡◌, ◌≤◌, length, IfOk, unwrap_or};
 ghost use Rattle.rtm_items.specs.View.{DeckView};
 ghost use Rattle.rtm_deck.specs.View.{ScanView};
-ghost use Rattle.rtm_deck.specs.Building.{line_of, lines_from, program_of, programs_from, unit_of, unit_in, units_from, command_in, commands_from, limit_from, deck_of};
+ghost use Rattle.rtm_deck.specs.Building.{line_of, line_count, lines_from, program_of, programs_from, unit_of, unit_in, units_from, command_in, commands_from, limit_from, deck_of};
 ghost use Rattle.rtm_deck.specs.Roles.{role_of};
 ghost use Rattle.rtm_deck.specs.Operations.{no_name};
 ghost use Rattle.rtm_deck.specs.Reader.{scanned};
@@ -51,11 +51,23 @@ fn line_of(seen: &Seen, read: &Read) -> Line
     }
 }
 
+/// How many cards stand before the first that is none of a program.
+fn line_count(reads: &[Read]) -> usize
+    ensures { result ≡ line_count reads.now }
+{
+    for (i, read) in reads.iter().enumerate() {
+        if !role_of(read.form).is_line() {
+            return i;
+        }
+    }
+    reads.len()
+}
+
 /// The cards of a program, up to the first that is none.
 fn lines_of(alloc: Global, seen: &Seen, reads: &[Read]) -> Result<Vec<Line>, NoMemory>
     ensures { IfOk result (λ lines. lines.items ≡ lines_from seen.now reads.now) }
 {
-    let mut lines = Vec::new(alloc);
+    let mut lines = Vec::with_capacity(alloc, line_count(reads))?;
     for read in reads {
         if !role_of(read.form).is_line() {
             return Ok(lines);

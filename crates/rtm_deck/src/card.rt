@@ -1,13 +1,14 @@
 //! Reading one card.
 
-ghost use Rattle.std.specs.Prelude.{◌≡◌, ◌≤◌, length, map, option_map, is_some, Option, Some, None, IfSome};
+ghost use Rattle.std.specs.Prelude.{◌≡◌, ◌≤◌, ℕ, List, length, map, option_map, is_some, Option, Some, None, IfSome};
 ghost use Rattle.std.specs.List.{AllByRecursion, list_any};
 ghost use Rattle.rtm_cards.specs.Span.{IsWithin, text_of};
 ghost use Rattle.rtm_cards.specs.Cards.{card_text, HasSpansIn};
 ghost use Rattle.rtm_items.specs.Forms.{form_named, operation_of, needs_some};
+ghost use Rattle.rtm_operands.specs.declared.value.Value.{Value};
 ghost use Rattle.rtm_operands.specs.Slot.{IsWellMade};
 ghost use Rattle.rtm_deck.specs.Roles.{role_of};
-ghost use Rattle.rtm_deck.specs.Seen.{enough, read_by, said_as, said_by, read_card, read_with, read_known};
+ghost use Rattle.rtm_deck.specs.Seen.{given, read_by, said, said_as, said_in, said_by, AreEnough, read_in, read_card, read_with, read_known};
 
 use crate::role::{Role, role_of};
 use crate::seen::Seen;
@@ -34,20 +35,20 @@ impl Model for Read {
     ghost view = { λ a. record { number = a.number; name = a.name; form = a.form; values = a.values.items } };
 }
 
-/// What the operands of a card say.
-#[derive(Drop)]
-struct Said {
-    form: CardForm,
-    values: Values,
-}
+static ESTAEX: [CardForm; 3] = [CardForm::EstaexCt, CardForm::EstaexOv, CardForm::EstaexZero];
 
-impl Model for Said {
-    ghost use Rattle.rtm_deck.specs.Seen.{SaidView};
+static SETFRR: [CardForm; 4] = [
+    CardForm::FrrAdd,
+    CardForm::FrrDelete,
+    CardForm::FrrReplace,
+    CardForm::FrrPurge,
+];
 
-    ghost Value = { SaidView };
+static ATTACHX: [CardForm; 2] = [CardForm::Attachx, CardForm::AttachxEstai];
 
-    ghost view = { λ a. record { form = a.form; values = a.values.items } };
-}
+static CALLRTM: [CardForm; 2] = [CardForm::Abterm, CardForm::Memterm];
+
+static RESMGR: [CardForm; 2] = [CardForm::MgrAdd, CardForm::MgrDelete];
 
 /// The first form of that operation.
 fn form_named(op: &[u8]) -> Option<CardForm>
@@ -73,86 +74,96 @@ fn gives_some(values: &[Option<Value>]) -> bool
     values.iter().any(|value| value.is_some())
 }
 
-/// The values, where some value is given or none need be.
-fn enough(wanted: bool, values: Values) -> Option<Values>
-    ensures { option_map (λ v. v.items) result ≡ enough wanted values.items }
-{
-    if wanted && !gives_some(&values) {
-        None
-    } else {
-        Some(values)
-    }
-}
-
-/// The values of a card's operands; without slots all that follows is a remark.
-fn read_by(bytes: &[u8], operands: &[Span], slots: &[Slot], wanted: bool) -> Option<Values>
+/// Puts the values of a card's operands in place of those that are there, and says whether there are any; without slots
+/// all that follows is a remark.
+fn read_by(
+    bytes: &[u8],
+    operands: &[Span],
+    slots: &[Slot],
+    wanted: bool,
+    values: &mut Values,
+) -> bool
     requires within { AllByRecursion (IsWithin bytes.now) operands.now }
     requires table { IsWellMade slots.now }
-    ensures { option_map (λ v. v.items) result ≡ read_by slots.now wanted (map (text_of bytes.now) operands.now) }
+    ensures { given result values.new.items ≡ read_by slots.now wanted (map (text_of bytes.now) operands.now) }
 {
     if slots.is_empty() {
-        return enough(wanted, ArrayVec::new());
+        *values = ArrayVec::new();
+        return !wanted;
     }
-    let values = read_operands(bytes, operands, slots)?;
-    enough(wanted, values)
+    match read_operands(bytes, operands, slots) {
+        None => false,
+        Some(read) => {
+            *values = read;
+            !wanted || gives_some(values)
+        }
+    }
 }
 
-/// What the operands say by that form, if the card has its operation.
-fn said_as(bytes: &[u8], op: &[u8], operands: &[Span], form: CardForm) -> Option<Said>
+/// The same by the slots of that form, if the card has its operation.
+fn read_as(bytes: &[u8], op: &[u8], operands: &[Span], form: CardForm, values: &mut Values) -> bool
     requires { AllByRecursion (IsWithin bytes.now) operands.now }
-    ensures { result ≡ said_as op.now (map (text_of bytes.now) operands.now) form }
+    ensures { said form (given result values.new.items) ≡ said_as op.now (map (text_of bytes.now) operands.now) form }
 {
-    if form.operation() != op {
-        return None;
-    }
-    let values = read_by(bytes, operands, form.slots(), needs_some(form))?;
-    Some(Said { form, values })
+    form.operation() == op && read_by(bytes, operands, form.slots(), needs_some(form), values)
 }
 
-/// What they say by the first form that reads them.
-fn said_by(bytes: &[u8], op: &[u8], operands: &[Span], forms: &[CardForm]) -> Option<Said>
+/// The forms of that operation, in their order; all forms where none has it.
+fn forms_of(op: &[u8]) -> &'static [CardForm]
+    ensures { AreEnough op.now result.now }
+{
+    match op {
+        b"REGION" => &[CardForm::Region],
+        b"PROG" => &[CardForm::Prog],
+        b"PEND" => &[CardForm::Pend],
+        b"TASK" => &[CardForm::Task],
+        b"SRB" => &[CardForm::Srb],
+        b"OPER" => &[CardForm::Oper],
+        b"CANCEL" => &[CardForm::Cancel],
+        b"END" => &[CardForm::End],
+        b"NOP" => &[CardForm::Nop],
+        b"GET" => &[CardForm::Get],
+        b"FREE" => &[CardForm::Free],
+        b"LINK" => &[CardForm::Link],
+        b"XCTL" => &[CardForm::Xctl],
+        b"RETURN" => &[CardForm::Return],
+        b"ABEND" => &[CardForm::Abend],
+        b"ESTAEX" => &ESTAEX,
+        b"SETFRR" => &SETFRR,
+        b"ATTACHX" => &ATTACHX,
+        b"DETACH" => &[CardForm::Detach],
+        b"CALLRTM" => &CALLRTM,
+        b"RESMGR" => &RESMGR,
+        b"SCHEDULE" => &[CardForm::Schedule],
+        b"WAIT" => &[CardForm::Wait],
+        b"WAITT" => &[CardForm::WaitTask],
+        b"POST" => &[CardForm::Post],
+        b"SETRP" => &[CardForm::SetRp],
+        b"B" => &[CardForm::Branch],
+        b"IFCODE" => &[CardForm::IfCode],
+        b"IFCLUP" => &[CardForm::IfClup],
+        b"IFPERC" => &[CardForm::IfPerc],
+        _ => all_forms(),
+    }
+}
+
+/// The first form that reads the operands, with the values that it reads.
+fn first_reading(
+    bytes: &[u8],
+    op: &[u8],
+    operands: &[Span],
+    forms: &[CardForm],
+    values: &mut Values,
+) -> Option<CardForm>
     requires { AllByRecursion (IsWithin bytes.now) operands.now }
-    ensures { result ≡ said_by op.now (map (text_of bytes.now) operands.now) forms.now }
+    ensures { said_in result values.new.items ≡ said_by op.now (map (text_of bytes.now) operands.now) forms.now }
 {
     for form in forms {
-        if let Some(said) = said_as(bytes, op, operands, *form) {
-            return Some(said);
+        if read_as(bytes, op, operands, *form, values) {
+            return Some(*form);
         }
     }
     None
-}
-
-/// The card as it is read, where it breaks no rule.
-fn read_as(
-    number: u32,
-    name: Option<Name>,
-    said: Option<Said>,
-    broken: Option<Why>,
-) -> Result<Read, Why>
-    ensures { result ≡ read_with number name said broken }
-{
-    if let Some(why) = broken {
-        return Err(why);
-    }
-    match said {
-        None => Err(Why::BadOperand),
-        Some(said) => Ok(Read {
-            number,
-            name,
-            form: said.form,
-            values: said.values,
-        }),
-    }
-}
-
-/// The form that was said.
-fn form_of(said: &Option<Said>) -> Option<CardForm>
-    ensures { result ≡ option_map (λ s. s.form) said.now }
-{
-    match said {
-        None => None,
-        Some(said) => Some(said.form),
-    }
 }
 
 /// The role of the cards of that operation. A form of it that is known already saves the search for the first: all have
@@ -170,19 +181,42 @@ fn role_named(op: &[u8], known: Option<CardForm>) -> Option<Role>
     }
 }
 
-/// The card as it is read behind the others, or the first rule of form that it breaks.
-pub(crate) fn read_card(seen: &Seen, bytes: &[u8], card: &Card) -> Result<Read, Why>
+/// The name and the form of a card that breaks no rule.
+fn read_with(
+    name: Option<Name>,
+    form: Option<CardForm>,
+    broken: Option<Why>,
+) -> Result<(Option<Name>, CardForm), Why>
+    ensures { (number : ℕ) (values : List (Option Value)) →
+        read_in number result values ≡ read_with number name (said_in form values) broken }
+{
+    if let Some(why) = broken {
+        return Err(why);
+    }
+    match form {
+        None => Err(Why::BadOperand),
+        Some(form) => Ok((name, form)),
+    }
+}
+
+/// The name, the form and the values of a card, as it is read behind the others, or the first rule of form that it breaks.
+pub(crate) fn read_card(
+    seen: &Seen,
+    bytes: &[u8],
+    card: &Card,
+    values: &mut Values,
+) -> Result<(Option<Name>, CardForm), Why>
     requires { HasSpansIn bytes.now card.now }
-    ensures { result ≡ read_card seen.now (card_text bytes.now card.now) }
+    ensures { read_in card.now.number result values.new.items ≡ read_card seen.now (card_text bytes.now card.now) }
 {
     let op = card.op.text(bytes);
     let name = name_of(card.name.text(bytes));
-    let said = said_by(bytes, op, &card.operands, all_forms());
-    match role_named(op, form_of(&said)) {
+    let form = first_reading(bytes, op, &card.operands, forms_of(op), values);
+    match role_named(op, form) {
         None => Err(Why::UnknownOp),
         Some(role) => {
-            let broken = seen.broken_rule(role, &name, said.is_some());
-            read_as(card.number, name, said, broken)
+            let broken = seen.broken_rule(role, &name, form.is_some());
+            read_with(name, form, broken)
         }
     }
 }

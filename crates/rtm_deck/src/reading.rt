@@ -19,6 +19,7 @@ use crate::fault::DeckFault;
 use crate::find::find_names;
 use crate::role::role_of;
 use crate::seen::Seen;
+use arrayvec::ArrayVec;
 use rtm_cards::{Card, Cut, CutFault, CutWhy, cut_cards};
 use rtm_items::{Deck, Why};
 use std::alloc::Global;
@@ -45,19 +46,25 @@ fn scan_cards(alloc: Global, bytes: &[u8], cards: &[Card]) -> Result<Scan, DeckF
     requires few { length cards.now < 2 ^ 30 }
     ensures { Gives (λ a b. a ≡ b) result (scan [] fresh (map (card_text bytes.now) cards.now)) }
 {
-    let mut reads = Vec::new(alloc);
+    let mut reads = Vec::with_capacity(alloc, cards.len())?;
     let mut seen = Seen::new(alloc);
     'cards: for card in cards {
-        match read_card(&seen, bytes, card) {
+        let mut values = ArrayVec::new();
+        match read_card(&seen, bytes, card, &mut values) {
             Err(why) => {
                 return Err(DeckFault::Refused {
                     card: card.number,
                     why,
                 });
             }
-            Ok(read) => {
-                seen.add(role_of(read.form), &read.name)?;
-                reads.push(read)?;
+            Ok((name, form)) => {
+                seen.add(role_of(form), &name)?;
+                reads.push(Read {
+                    number: card.number,
+                    name,
+                    form,
+                    values,
+                })?;
             }
         }
     }

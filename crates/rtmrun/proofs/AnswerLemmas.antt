@@ -1,5 +1,5 @@
 -- What is to be written of an input that is too long.
-use Rattle.std.proofs.Common.{◌≡◌, ℕ, zero, suc, ◌+◌, ◌-◌, ◌<◌, ◌≤◌, List, [], ◌∷◌, length, take, Option, Some, None, Result, Ok, Err, refl, sym, ap, subst, ◌∙◌, inl, cond, arith}
+use Rattle.std.proofs.Common.{◌≡◌, ℕ, zero, suc, ◌+◌, ◌-◌, ◌<◌, ◌≤◌, List, [], ◌∷◌, length, take, Option, Some, None, Result, Ok, Err, refl, sym, subst, ◌∙◌, inl, cond, arith}
 use Rattle.std.specs.Prelude.{IfSome, IfOk, count_by, ◌==◌}
 use Rattle.std.proofs.lemmas.List.Sums.{sum_by-cons}
 use Rattle.rtm_io.specs.Input.{IsInFault, IsTooLong, line_at}
@@ -14,7 +14,7 @@ use Rattle.rtmrun.specs.declared.request.Request.{Request}
 use Rattle.rtmrun.specs.declared.request.Request.TheVariants as requests
 use Rattle.rtmrun.specs.declared.outcome.Status.{Status}
 use Rattle.rtmrun.specs.declared.outcome.Status.TheVariants as status
-use Rattle.rtmrun.specs.Answer.{IsAnswer, IsAnswerOf, IsRefusalOf, refusal_text}
+use Rattle.rtmrun.specs.Answer.{IsAnswer, IsAnswerOf, refusal_text}
 
 -- the card of a byte is one more than the line feeds before it
 number_is : (bytes : List ℕ) (i : ℕ) → number_at bytes i ≡ line_at bytes i

@@ -27,6 +27,12 @@ words_of requests.Seq = codes "seq" ∷ []
 abbrev pub AreUnknown : List (List ℕ) → Type 0
 AreUnknown words = (request : Request) → words ≡ words_of request → ⊥
 
+-- Words can't be had: memory is wanting, or one of them is no text.
+abbrev pub HasNoWords : Status → Type 0
+HasNoWords status.Memory = Unit {0}
+HasNoWords status.Words = Unit {0}
+HasNoWords _ = ⊥
+
 -- the status with which the program ends
 abbrev pub exit_status : Status → ℕ
 exit_status status.Fine = 0

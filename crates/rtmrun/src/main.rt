@@ -1,6 +1,9 @@
 //! Runs a deck of recovery termination and prints its trace.
 #![tactic(auto)]
 
+ghost use Rattle.std.specs.Prelude.{IfErr};
+ghost use Rattle.rtmrun.specs.Answer.{HasNoWords};
+
 mod answer;
 mod outcome;
 mod push;
@@ -22,8 +25,10 @@ mod scan_tests;
 #[cfg(test)]
 mod tests;
 
-// The words behind the program's name.
-fn words_of<R: Env + AllocGlobal>(rt: &R) -> Result<Vec<RtmWord>, Status> {
+// The words behind the program's name. Which words the system gives no contract can say.
+fn words_of<R: Env + AllocGlobal>(rt: &R) -> Result<Vec<RtmWord>, Status>
+    ensures { IfErr result HasNoWords }
+{
     let all = match env::args(rt) {
         Ok(all) => all,
         Err(error) if error.kind() == ErrorKind::OutOfMemory => return Err(Status::Memory),

@@ -10,14 +10,14 @@ use Rattle.rtm_deck.proofs.reading.scan_cards.Goals as goal
 
 pub cards-preserved : goal.cards-preserved
 cards-preserved c =
-    let kept : c.add.new.self ≡ after c.cards.seen (role_of c.in-Ok.read.form) c.in-Ok.read.name =
-    c.in_ok-add-in-Ok.ensures ∙ ((λ j. after c.cards.seen (c.role_of.ensures j) c.read.inside.name) ∙ ap (λ r. after c.cards.seen (role_of r.form) r.name) c.read.view_is) in
+    let name = c.in-Ok.name in
+    let kept : c.add.new.self ≡ after c.cards.seen (role_of c.in-Ok.form) name = c.in_ok-add-in-Ok.ensures ∙ (λ j. after c.cards.seen (c.role_of.ensures j) name) in
     record {
       result = ap (λ xs. scan xs c.add.new.self (map (card_text c.args.bytes.now) (drop (c.cards.card-index + 1) c.args.cards.now))) c.in_ok-push-in-Ok.ensures.items
-          ∙ scan-read c.args.bytes.now c.args.cards.now c.cards.card-index c.card-item.result c.cards.reads.items c.cards.seen c.add.new.self c.in-Ok.read _
+          ∙ scan-read c.args.bytes.now c.args.cards.now c.cards.card-index c.card-item.result c.cards.reads.items c.cards.seen c.add.new.self _ _
           c.cards-test.true c.card-item.is c.cards.invariant.result c.in-Ok.ensures kept;
       spans = (spans-next c.args.bytes.now c.args.cards.now c.cards.card-index c.card-item.result c.cards-test.true c.card-item.is c.cards.invariant.spans).1;
-      few = subst (λ s. s.commands ≤ c.cards.card-index + 1) (sym c.in_ok-add-in-Ok.ensures) (commands-after c.cards.seen c.role_of.result c.read.inside.name c.cards.card-index c.cards.invariant.few);
+      few = subst (λ s. s.commands ≤ c.cards.card-index + 1) (sym c.in_ok-add-in-Ok.ensures) (commands-after c.cards.seen c.role_of.result name c.cards.card-index c.cards.invariant.few);
     }
 
 pub returns-in-Err : goal.returns-in-Err
@@ -29,7 +29,7 @@ pub read_card-requires : goal.read_card-requires
 read_card-requires c = (spans-next c.args.bytes.now c.args.cards.now c.cards.card-index c.card-item.result c.cards-test.true c.card-item.is c.cards.invariant.spans).0
 
 pub returns-in_err-add-in-Ok : goal.returns-in_err-add-in-Ok
-returns-in_err-add-in-Ok c = let p = err_from_is_err_and c.from_residual.result c.from_residual.ensures.1 in gives-memory _ _ p.0 _ p.1 p.2
+returns-in_err-add-in-Ok c = let p = err_from_is_err_and c.from_residual-in_err-add-in-Ok.result c.from_residual-in_err-add-in-Ok.ensures.1 in gives-memory _ _ p.0 _ p.1 p.2
 
 pub returns-in_err-push-in-Ok : goal.returns-in_err-push-in-Ok
 returns-in_err-push-in-Ok c = let p = err_from_is_err_and c.from_residual-in_err-push-in-Ok.result c.from_residual-in_err-push-in-Ok.ensures.1 in gives-memory _ _ p.0 _ p.1 p.2

@@ -1,7 +1,7 @@
 use Rattle.std.proofs.Common.{◌≡◌, drop, map}
 use Rattle.rtm_cards.specs.Span.{text_of}
 use Rattle.rtm_deck.specs.Seen.{said_by}
-use Rattle.rtm_deck.proofs.card.said_by.Given as goal
+use Rattle.rtm_deck.proofs.card.first_reading.Given as goal
 
 -- what is said by the forms that are left is said by all
 abbrev pub invariant-loop-form : goal.invariant-loop-form
