@@ -14,7 +14,7 @@ use Rattle.rtm_model.specs.Births.{purged}
 use Rattle.rtm_model.specs.Moments.{IsAt, IsWhat, before, core_before, is_arrival, unit_before}
 use Rattle.rtm_model.specs.NextEntry.{interruptible, is_retry}
 use Rattle.rtm_model.specs.Record.{verdict}
-use Rattle.rtm_model.specs.World.{UnitOfWork, World, unit_at}
+use Rattle.rtm_model.specs.World.{UnitOfWork, World, lives_in, unit_at}
 
 -- the abort of that class that was posted at that entry is pending for the unit
 abbrev pub is_abort_of : Class → ℕ → Abort → Bool
@@ -33,8 +33,9 @@ EndsAbort u class from unit (Begin code dump) = unit ≡ u
 EndsAbort u class from unit (Purge purged) = purged ≡ u
 EndsAbort u class from unit _ = ⊥
 
--- the unit may be interrupted before the entry of index i, and that abort is the first that is pending for it
+-- the unit lives and may be interrupted before the entry of index i, and that abort is the first that is pending for it
 pub record MayLand (d : DeckView) (history : List Entry) (i u : ℕ) (class : Class) (from : ℕ) : Type 0 where
+  pub lives : lives_in (before d history i) u ≡ true
   pub interruptible_is : interruptible (core_before d history i u) ≡ true
   pub first : IsSomeAnd (first_abort (UnitOfWork.pending (unit_before d history i u)))
       (λ abort. (abort.class ≡ class) × (abort.from ≡ from))

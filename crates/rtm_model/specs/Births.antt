@@ -65,7 +65,8 @@ new_estae n c prog term cancel xctl = record {
   xctl = xctl;
 }
 
--- the ESTAI routine that ATTACHX names, if it names one (Assembler Services Reference, ATTACHX)
+-- the ESTAI routine that ATTACHX names, if it names one (Assembler Services Reference, ATTACHX; that it has a TERM option of
+-- its own, and CANCEL=YES always, is this profile's)
 abbrev pub new_estai : ℕ → Bool → Option ℕ → Option Reg
 new_estai n term prog = option_map (λ prog. record {
   kind = Estai;
@@ -91,7 +92,7 @@ manager_routine manager = record {
   xctl = false;
 }
 
--- The aborts (codes: MVS System Codes; retry, TERM-only and merging are this profile's)
+-- The aborts (codes: MVS System Codes; every use of 13E and 33E, retry, TERM-only and merging are this profile's)
 
 -- the operator's CANCEL: 222, or 122 with a dump
 abbrev pub cancel_abort : ℕ → Bool → Abort
@@ -456,7 +457,8 @@ ended d n u code cause w =
 abbrev pub cause_of : Option Beginning → Option ErrorRecord
 cause_of begun = option_and_then (λ begun. begun.cause) begun
 
--- memory end takes a unit away: all that it has is gone, but for its holdings
+-- memory end takes a unit away: all that it has is gone, but for its holdings; that it was doomed and had begun to end
+-- stays, and nobody reads it
 abbrev pub purged_core : Core → Core
 purged_core c = record c { blocks = []; levels = outermost_alone; frrs = []; estaes = []; estais = [] }
 

@@ -54,7 +54,6 @@ AreFalling [] = Unit {0}
 AreFalling (reg ∷ []) = Unit {0}
 AreFalling (reg ∷ older ∷ regs) = (older.born < reg.born) × AreFalling (older ∷ regs)
 
--- no two of them have one name
 abbrev pub is_same_kind : Kind → Kind → Bool
 is_same_kind Frr Frr = true
 is_same_kind Estae Estae = true
@@ -66,6 +65,7 @@ is_same_kind _ _ = false
 abbrev pub is_named : Kind → ℕ → Reg → Bool
 is_named kind born reg = is_same_kind kind reg.kind && (reg.born == born)
 
+-- no two of them have one name
 abbrev pub AreDistinct : List Reg → Type 0
 AreDistinct [] = Unit {0}
 AreDistinct (reg ∷ regs) = (list_any (is_named reg.kind reg.born) regs ≡ false) × AreDistinct regs

@@ -101,7 +101,8 @@ released_of born held = record {
   timr = without_holding born held.timr;
 }
 
--- what a release leaves: the holding that was born at that entry is gone, whoever had it
+-- what a release leaves: the holding that was born at that entry is gone, whoever had it. (The machine says the same step by
+-- owner, class and number: freed.)
 abbrev pub released : ℕ → List Holdings → List Holdings
 released born owners = map (released_of born) owners
 

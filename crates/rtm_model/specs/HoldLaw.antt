@@ -1,4 +1,4 @@
--- The law of holdings: what is got is released once, and nothing is held past the end (this profile).
+-- The law of holdings: what is got is freed or released at most once, and nothing is held past the end (this profile).
 use Rattle.std.specs.Prelude.{List, Option, length, ℕ, ◌+◌, ◌<◌, ◌≡◌, ◌≤◌}
 use Rattle.rtm_codes.specs.declared.code.Code.{Code}
 use Rattle.rtm_items.specs.Reading.{op_at}

@@ -37,10 +37,12 @@ abbrev pub enclosing : List Level → Option Level
 enclosing [] = None
 enclosing (l ∷ ls) = innermost ls
 
+-- its routine, if it is there and has one
 abbrev pub routine_of : Option Level → Option Reg
 routine_of None = None
 routine_of (Some l) = l.routine
 
+-- the record of its open error
 abbrev pub error_of : Option Level → Option ErrorRecord
 error_of None = None
 error_of (Some l) = l.error
@@ -61,10 +63,12 @@ error_here ls = is_some (error_in ls)
 abbrev pub depth_in : List Level → ℕ
 depth_in ls = length ls - 1
 
+-- a resource manager, and no recovery routine
 abbrev pub is_manager : Kind → Bool
 is_manager Mgr = true
 is_manager _ = false
 
+-- a functional recovery routine
 abbrev pub is_frr : Kind → Bool
 is_frr Frr = true
 is_frr _ = false
@@ -83,8 +87,8 @@ recovers ls = is_recovery (current ls)
 abbrev pub record_in : List Level → Option ErrorRecord
 record_in ls = if recovers ls then error_of (enclosing ls) else None
 
--- no abort interrupts a routine of that kind: an FRR, a resource manager, and one with CANCEL=NO (Assembler Services
--- Reference, ESTAEX)
+-- no abort interrupts a routine of that kind: an FRR, a resource manager, and one with CANCEL=NO (that option: Assembler
+-- Services Reference, ESTAEX; the rest is this profile's). An ESTAI routine never shields: it has CANCEL=YES always.
 abbrev pub shields : Option Reg → Bool
 shields None = false
 shields (Some reg) = is_frr reg.kind || is_manager reg.kind || not reg.cancel
@@ -98,6 +102,7 @@ shielded ls = list_any (λ l. shields l.routine) ls
 -- TERM=YES alone, and no FRR. (In one bracket each living FRR is younger than each living ESTAE routine, so this is the
 -- order of falling birth.)
 
+-- the newest FRR of the bracket; a TERM-only record admits none (this profile)
 abbrev pub next_frr : ℕ → Bool → List Reg → Option Reg
 next_frr depth term_only frrs = if term_only then None else newest_of depth frrs
 

@@ -114,7 +114,7 @@ is_logged r = option_map_or (λ r. r.flags.logrec) r false
 abbrev pub is_dumped : Option ErrorRecord → Bool
 is_dumped r = option_map_or (λ r. r.flags.dump) r false
 
--- the routine is left; a dump is taken at a retry alone
+-- the routine is left; a dump is taken at a retry alone (this profile)
 abbrev pub left_with : Reg → Option ErrorRecord → Verdict → What
 left_with reg r verdict = Leave reg.kind reg.born verdict (is_logged r) (is_dumped r && is_retry verdict)
 
@@ -122,7 +122,7 @@ abbrev pub left : DeckView → Core → Reg → What
 left d c reg = left_with reg (record_in c.levels) (verdict_in d (retry_prog c reg) c.levels)
 
 -- A unit's last request block returns: it begins to end, abnormally where a subtask of it lives (MVS System Codes,
--- A03)
+-- A03; its exact place is this profile's)
 abbrev pub normal_end : Code
 normal_end = Sys 0
 

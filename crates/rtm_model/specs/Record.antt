@@ -71,7 +71,7 @@ asked_nothing f = record f { remrec = false; logrec = false; fresdwa = false }
 abbrev pub percolated : ErrorRecord → ErrorRecord
 percolated r = record r { flags = record (asked_nothing r.flags) { perc = true }; rc = 0; retaddr = None }
 
--- the routine has failed, by an error whose record forbids no retry
+-- the routine has failed: as after a percolation, with STAF in the place of PERC, which stays as it was (this profile)
 abbrev pub after_failure : ErrorRecord → ErrorRecord
 after_failure r = record r { flags = record (asked_nothing r.flags) { staf = true }; rc = 0; retaddr = None }
 
@@ -101,7 +101,8 @@ abbrev pub is_estai : Kind → Bool
 is_estai Estai = true
 is_estai _ = false
 
--- what a routine's end means: a retry where there is a place for it, else by the return code that SETRP set
+-- what a routine's end means: a retry where there is a place for it, else by the return code that SETRP set; 16 of another
+-- kind than an ESTAI routine is bad (this profile)
 abbrev pub verdict_by : Kind → ℕ → Option Place → Verdict
 verdict_by kind rc (Some place) = Retry place
 verdict_by kind rc None = if (rc == 16) && is_estai kind then Stop else if rc == 0 then Perc else Bad

@@ -205,7 +205,7 @@ pub record IsSound (d : DeckView) (n : ℕ) (w : World) : Type 0 where
   pub master_quiet : OutermostQuiet (Core.levels (core_at (master d) w))
   -- a unit that wasn't born yet is as it was at the start
   pub dormant : (u : ℕ) → u < length d.units → is_dormant (life_of u (Tree.lives w.tree)) ≡ true → unit_at u w.units ≡ unborn
-  -- a unit has no more ESTAI routines than units were born before it
+  -- each unit has fewer ESTAI routines than units were born so far
   pub estais : (u : ℕ) → length (Core.estais (core_at u w)) < born_units (Tree.lives w.tree)
   pub pending : (u : ℕ) → ArePending n (UnitOfWork.pending (unit_at u w.units))
   -- no abort is pending for a unit that doesn't stand

@@ -80,7 +80,7 @@ at_birth born prog estais unit = record unit { core = born_core born prog estais
 abbrev pub master : DeckView → ℕ
 master d = length d.units
 
--- the related task of an SRB (Authorized Assembler Services Reference, SCHEDULE)
+-- the related task of an SRB (Authorized Assembler Services Reference, SCHEDULE; that its card names it is this profile's)
 abbrev pub related_to : DeckView → ℕ → Option ℕ
 related_to d u = option_and_then (λ unit. unit.related) (slice_get d.units u)
 
