@@ -1,0 +1,4 @@
+pub mod Fitting
+pub mod Inheriting
+pub mod Making
+pub mod Room

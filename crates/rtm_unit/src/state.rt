@@ -1,0 +1,219 @@
+ghost use Rattle.std.specs.Prelude.{◌≡◌, ◌+◌, ◌<◌, ◌≤◌, [], IfOk, is_some, length};
+ghost use Rattle.std.specs.Option.{option_map};
+ghost use Rattle.rtm_model.specs.Aborts.{fate_of, first_abort};
+ghost use Rattle.rtm_model.specs.Births.{cause_of, own_change, own_pending, purged_core, with_posted};
+ghost use Rattle.rtm_model.specs.Chains.{inherited};
+ghost use Rattle.rtm_model.specs.Levels.{depth_in, error_here};
+ghost use Rattle.rtm_model.specs.NextEntry.{next_master, next_unit};
+ghost use Rattle.rtm_model.specs.Outside.{op_here};
+ghost use Rattle.rtm_model.specs.World.{at_birth, unborn};
+ghost use Rattle.rtm_unit.specs.Applying.{CanApplyTo};
+
+use crate::control_blocks::ControlBlocks;
+use rtm_aborts::Pending;
+use rtm_chains::EstaiList;
+use rtm_codes::{Code, NoMemory};
+use rtm_ending::Managers;
+use rtm_items::{Deck, Op};
+use rtm_model::{Abort, Around, Class, Fate, Reg, What};
+use rtm_sdwa::Sdwa;
+use std::alloc::Global;
+use std::marker::Model;
+
+/// A unit of work: its own control blocks, the aborts that are pending for it, and how many of its commands have
+/// arrived.
+///
+/// A contract sees it as the unit of the definitions. All its memory is taken when it is made.
+#[derive(Drop)]
+pub struct UnitState {
+    core: ControlBlocks,
+    pending: Pending,
+    arrived: u8,
+}
+
+impl Model for UnitState {
+    ghost use Rattle.rtm_model.specs.World.{UnitOfWork};
+
+    ghost Value = { UnitOfWork };
+
+    ghost view = { λ a. record { core = a.core; pending = a.pending; arrived = a.arrived } };
+}
+
+/// What an entry of the unit changes of its pending aborts: the first lands, or all go where the unit begins to end.
+fn own_pending(pending: &mut Pending, what: &What)
+    ensures { pending.new ≡ own_pending what.now pending.old }
+{
+    match what {
+        What::Land { .. } => {
+            let _landed = pending.land();
+        }
+        What::Begin { .. } => pending.drop_all(),
+        _ => {}
+    }
+}
+
+impl UnitState {
+    /// A unit before its birth, with room for all that it may have.
+    pub fn with_room(alloc: Global) -> Result<UnitState, NoMemory>
+        ensures { IfOk result (λ unit. unit ≡ unborn) }
+    {
+        let core = ControlBlocks::with_room(alloc)?;
+        Ok(UnitState {
+            core,
+            pending: Pending::new(),
+            arrived: 0,
+        })
+    }
+
+    /// The operation at which the unit stands; where it has no request block the first card of the first
+    /// program, which no entry asks for.
+    pub fn op_here(&self, deck: &Deck) -> Op
+        ensures { result ≡ op_here deck.now self.now.core }
+    {
+        self.core.op_here(deck)
+    }
+
+    /// The entry that the unit makes next, while it lives and memory end has not begun.
+    pub fn next(&self, deck: &Deck, around: &Around) -> Option<What>
+        ensures { result ≡ next_unit deck.now self.now.core around.now }
+    {
+        self.core.next(deck, around)
+    }
+
+    /// The master's next entry at memory end, which has that code; `living` is the first unit that lives.
+    pub fn next_at_memory_end(
+        &self,
+        deck: &Deck,
+        around: &Around,
+        code: Code,
+        living: Option<u16>,
+    ) -> Option<What>
+        ensures { result ≡ next_master deck.now self.now.core around.now code living }
+    {
+        self.core.next_at_memory_end(deck, around, code, living)
+    }
+
+    /// The entry of that index, which is the unit's own, changes it.
+    pub fn apply(&mut self, deck: &Deck, index: u32, managers: &Managers, what: &What)
+        requires can { CanApplyTo deck.now self.old.core managers.now (first_abort self.old.pending) what.now }
+        requires index { index < 4294967295 }
+        ensures { self.new ≡ own_change deck.now index managers.now what.now self.old }
+    {
+        let abort = self.pending.first();
+        self.core.apply(deck, index, managers, abort, what);
+        own_pending(&mut self.pending, what);
+    }
+
+    /// The job step task, or an SRB, is born: its request block, of that birth, stands at the first operation of the
+    /// program.
+    pub fn be_born(&mut self, born: u32, prog: u16)
+        requires { self.old ≡ unborn }
+        ensures { self.new ≡ at_birth born prog [] self.old }
+    {
+        self.core.blocks.begin(born, prog);
+    }
+
+    /// A subtask is born, as by `be_born`, with the ESTAI routine that its own ATTACHX names, if it names one, and those
+    /// of its mother.
+    pub fn be_attached(&mut self, born: u32, prog: u16, own: Option<Reg>, mother: &EstaiList)
+        requires unborn { self.old ≡ unborn }
+        requires room { length (inherited own mother.now) ≤ 63 }
+        ensures { self.new ≡ at_birth born prog (inherited own mother.now) self.old }
+    {
+        self.core.blocks.begin(born, prog);
+        self.core.estais.inherit(mother, own);
+    }
+
+    /// An abort is posted, and `late` says that it can't be aborted any more (it is dormant, has begun to end or
+    /// doesn't live).
+    pub fn post(&mut self, abort: Abort, late: bool) -> Fate
+        ensures fate { result ≡ fate_of late abort.class self.old.pending }
+        ensures unit { self.new ≡ with_posted late abort self.old }
+    {
+        self.pending.post(abort, late)
+    }
+
+    /// The fate that an abort of the class would have if it was posted now.
+    pub fn fate(&self, class: Class, late: bool) -> Fate
+        ensures { result ≡ fate_of late class self.now.pending }
+    {
+        self.pending.fate(class, late)
+    }
+
+    /// Memory end takes the unit away.
+    pub fn purge(&mut self)
+        ensures { self.new ≡ record self.old { core = purged_core self.old.core; pending = [] } }
+    {
+        self.core.purge();
+        self.pending.drop_all();
+    }
+
+    /// One more of its commands has arrived. A deck has at most 64.
+    pub fn count_arrival(&mut self)
+        requires { self.old.arrived < 255 }
+        ensures { self.new ≡ record self.old { arrived = self.old.arrived + 1 } }
+    {
+        self.arrived += 1;
+    }
+
+    /// The abort that lands next.
+    pub fn first_abort(&self) -> Option<Abort>
+        ensures { result ≡ first_abort self.now.pending }
+    {
+        self.pending.first()
+    }
+
+    /// How many of its commands have arrived.
+    pub fn arrived(&self) -> u8
+        ensures { result ≡ self.now.arrived }
+    {
+        self.arrived
+    }
+
+    pub fn has_begun(&self) -> bool
+        ensures { result ≡ is_some self.now.core.begun }
+    {
+        self.core.begun.is_some()
+    }
+
+    /// The code with which it has begun to end.
+    pub fn end_code(&self) -> Option<Code>
+        ensures { result ≡ option_map (λ begun. begun.code) self.now.core.begun }
+    {
+        match self.core.begun {
+            Some(begun) => Some(begun.code),
+            None => None,
+        }
+    }
+
+    /// The record of the error by which it has begun to end, if by one.
+    pub fn cause(&self) -> Option<Sdwa>
+        ensures { result ≡ cause_of self.now.core.begun }
+    {
+        match self.core.begun {
+            Some(begun) => begun.cause,
+            None => None,
+        }
+    }
+
+    /// Whether an error is open in the innermost bracket.
+    pub fn has_error(&self) -> bool
+        ensures { result ≡ error_here self.now.core.levels }
+    {
+        self.core.levels.error_here()
+    }
+
+    /// How many brackets enclose the innermost one.
+    pub fn depth(&self) -> u8
+        ensures { result ≡ depth_in self.now.core.levels }
+    {
+        self.core.levels.depth()
+    }
+
+    /// Its ESTAI routines, which its subtasks inherit.
+    pub fn estais(&self) -> &EstaiList
+        ensures { result.now ≡ self.now.core.estais }
+    {
+        &self.core.estais
+    }
+}
