@@ -1,5 +1,5 @@
--- What may follow is made by a unit that lives, or by the master; and the master adds no resource manager, for it runs
--- no card but in a manager's bracket.
+-- What may follow is made by a unit that lives, or by the master; and the master adds no resource manager and attaches no
+-- task, for it runs no card but in a manager's bracket.
 use Rattle.std.proofs.Common.{◌≡◌, ℕ, zero, suc, ◌+◌, ◌-◌, ◌<◌, ◌≤◌, Bool, true, false, cond, not, List, [], ◌∷◌, length, Option, Some, None, inl, inr, refl, subst, arith, eqb-true}
 use Rattle.std.proofs.lemmas.Bool.{and_parts, cases_lt, eqb-false, or_right}
 use Rattle.std.specs.Prelude.{IfSome, IsTrue, is_none, is_some, position, ◌==◌}
@@ -60,9 +60,10 @@ lives_by d w n e _ h can lt = next_lives d w e.unit _ h lt
 
 -- Cards of a manager's bracket
 
--- the card adds no manager
+-- the card adds no manager, and attaches no task
 abbrev AddsNone : Op → Type 0
 AddsNone (ops.MgrAdd prog space) = ⊥
+AddsNone (ops.Attachx unit estai term) = ⊥
 AddsNone _ = Unit {0}
 
 abbrev AddsNoManager : DeckView → What → Type 0
@@ -74,9 +75,10 @@ wrong_if true manager rest o rc h e = absurd cc
 wrong_if false true rest o rc h e = absurd cc
 wrong_if false false rest o rc h e = absurd cc
 
--- in a manager's bracket RESMGR ADD is an error
+-- in a manager's bracket RESMGR ADD and ATTACHX are errors
 executed : (c : Core) (a : Around) (op : Op) (rc : ℕ) → in_manager c.levels ≡ true → outcome c a op ≡ Executed rc → AddsNone op
 executed c a (ops.MgrAdd prog space) rc h e = wrong_if _ (in_manager c.levels) _ _ rc h e
+executed c a (ops.Attachx unit estai term) rc h e = wrong_if _ (in_manager c.levels) _ _ rc h e
 executed c a _ rc h e = tt
 
 returned_adds : (d : DeckView) (c : Core) (a : Around) (o : Option Reg) → AddsNoManager d (returned d c a o)
@@ -176,10 +178,12 @@ next_adds d n w u what e s ge le =
 
 card_adds : (d : DeckView) (u : ℕ) (op : Op) → AddsNone op → AddsToTask d u op
 card_adds d u (ops.MgrAdd prog space) h = absurd h
+card_adds d u (ops.Attachx unit estai term) h = absurd h
 card_adds d u _ h = tt
 
 card_below : (d : DeckView) (u : ℕ) (op : Op) → u < length d.units → AddsToTask d u op
 card_below d u (ops.MgrAdd prog space) lt = lt
+card_below d u (ops.Attachx unit estai term) lt = lt
 card_below d u _ lt = tt
 
 adds_by : (d : DeckView) (w : World) (n : ℕ) (e : Entry) (what : What) → MayFollow d w n e what → IsSound d n w → e.unit ≤ length d.units → AddsManagers d e.unit what

@@ -30,9 +30,10 @@ use Rattle.rtm_region_sound.proofs.Managers.{AreManagers, managers_added, manage
 use Rattle.rtm_region_sound.proofs.Owners.{AreOwners, owners_freed, owners_got}
 use Rattle.rtm_region_sound.proofs.Worlds.{BeganWith, IsRegion, region_arrived, region_attached, region_ended, region_posted, region_purged, region_scheduled}
 
--- the master adds no resource manager
+-- the master adds no resource manager, and attaches no task
 abbrev pub AddsToTask : DeckView → ℕ → Op → Type 0
 AddsToTask d u (ops.MgrAdd prog space) = u < length d.units
+AddsToTask d u (ops.Attachx unit estai term) = u < length d.units
 AddsToTask d u _ = Unit {0}
 
 -- a world with other units

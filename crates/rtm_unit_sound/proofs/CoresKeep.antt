@@ -100,7 +100,7 @@ none : 1 ≤ length (newest_bracket (Core.blocks (UnitOfWork.core unborn))) → 
 none h = omega arith
 
 -- the unit of a card is another than a dormant one
-still_unborn : (u unit : ℕ) (f : UnitOfWork → UnitOfWork) (units : List UnitOfWork) (b : Bool) → (unit == u) ≡ b → 1 ≤ length (newest_bracket (Core.blocks (UnitOfWork.core (unit_at u units)))) → unit_at unit units ≡ unborn → unit_at unit (on_unit u f units) ≡ unborn
+pub still_unborn : (u unit : ℕ) (f : UnitOfWork → UnitOfWork) (units : List UnitOfWork) (b : Bool) → (unit == u) ≡ b → 1 ≤ length (newest_bracket (Core.blocks (UnitOfWork.core (unit_at u units)))) → unit_at unit units ≡ unborn → unit_at unit (on_unit u f units) ≡ unborn
 still_unborn u unit f units true e some fresh =
     let same : unit ≡ u = eqb-true unit u e in
     absurd (none (subst (λ (x : UnitOfWork). 1 ≤ length (newest_bracket (Core.blocks (UnitOfWork.core x)))) (subst (λ (k : ℕ). unit_at k units ≡ unborn) same fresh) some))
@@ -174,7 +174,7 @@ exec_own d n w u rc at f s here can =
     (λ other. after_is_place d at rc p other) (own_can w u rc (op_at d at.prog at.op) can)
 
 -- a unit that isn't the card's stays unborn
-card_estais : (n : ℕ) (place : Place) (op : Op) (c : Core) → Core.estais (own_card n place op c) ≡ c.estais
+pub card_estais : (n : ℕ) (place : Place) (op : Op) (c : Core) → Core.estais (own_card n place op c) ≡ c.estais
 card_estais n place (ops.Link prog) c = refl
 card_estais n place (ops.Xctl prog) c = refl
 card_estais n place ops.Return c = refl

@@ -1,0 +1,13 @@
+pub mod Life
+pub mod Managers
+pub mod Holdings
+pub mod Aborts
+pub mod Units
+pub mod Routines
+pub mod Frrs
+pub mod Estais
+pub mod LivingUnits
+pub mod Errors
+pub mod Brackets
+pub mod RequestBlocks
+pub mod Estaes
