@@ -1,0 +1,4 @@
+pub mod Shape
+pub mod Posting
+pub mod Beyond
+pub mod Follows

@@ -1,0 +1,11 @@
+use Rattle.std.proofs.Common.{subst}
+use Rattle.std.specs.List.{AllByRecursion}
+use Rattle.rtm_model.specs.Fits.{Fits}
+use Rattle.rtm_sound.proofs.Fitting.{all_fit}
+use Rattle.rtm_whole.specs.View.{SystemView}
+use Rattle.rtm_whole.proofs.system.System.trace.Goals as goal
+
+pub returns-clause-fits : goal.returns-clause-fits
+returns-clause-fits c =
+    subst (λ (v : SystemView). AllByRecursion (Fits v.deck) v.trace) c.self.view_is
+    (all_fit c.self.inside.deck c.self.inside.trace.items c.keeps_its_form.ensures.well_formed c.self.invariant.legal)
