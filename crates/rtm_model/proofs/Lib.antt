@@ -1,6 +1,2 @@
 pub mod Lists
-pub mod Decks
-pub mod CanNext
-pub mod Keeps
-pub mod Histories
 pub mod SetrpCards

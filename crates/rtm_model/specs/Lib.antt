@@ -1,12 +1,5 @@
 pub mod Record
-pub mod Unit
-pub mod Next
-pub mod Advance
-pub mod History
-pub mod Sound
-pub mod Fitting
 pub mod Chains
-pub mod Runs
 pub mod Blocks
 pub mod Tasks
 pub mod Aborts

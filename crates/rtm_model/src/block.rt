@@ -1,6 +1,3 @@
-use crate::error_record::ErrorRecord;
-use crate::reg::Reg;
-
 /// A place in a program: the program's number in the deck, and the operation's, from 1.
 ///
 /// The place behind a program's last card has the number of cards plus one, and acts as RETURN.
@@ -16,13 +13,4 @@ pub struct Place {
 pub struct Block {
     pub born: u32,
     pub place: Place,
-}
-
-/// A bracket of a unit: the recovery routine that runs in it (none in the outermost), the error that is open in it,
-/// and its request block.
-#[derive(Clone, Copy, Debug, PartialEq, Eq)]
-pub struct Bracket {
-    pub routine: Option<Reg>,
-    pub error: Option<ErrorRecord>,
-    pub block: Block,
 }

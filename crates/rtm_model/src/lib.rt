@@ -7,14 +7,13 @@ mod block;
 mod entry;
 mod error_record;
 mod holding;
-pub mod laws;
 mod mark;
 mod outcome;
 mod reg;
 
 pub use abort::Abort;
 pub use around::Around;
-pub use block::{Block, Bracket, Place};
+pub use block::{Block, Place};
 pub use entry::{Class, End, Entry, Fate, Verdict, What};
 pub use error_record::{ErrorRecord, RecordFlags};
 pub use holding::{Holding, Manager1};

@@ -1,2 +1,6 @@
-pub mod Reversed
 pub mod Standing
+pub mod Going
+pub mod Following
+pub mod Firsts
+pub mod Rounds
+pub mod Arrivals

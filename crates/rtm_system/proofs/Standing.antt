@@ -1,89 +1,64 @@
 -- A system's control blocks stand for its trace: at the start, and after one more entry.
-use Rattle.std.proofs.Common.{◌≡◌, ℕ, ◌<◌, ◌≤◌, Bool, true, false, List, [], ◌∷◌, ◌++◌, length, Some, None, refl, sym, ap, subst, ◌∙◌}
-use Rattle.std.specs.Prelude.{IsTrue, nat_le, ◌≢◌, ◌==◌, if◌then◌else◌}
-use Rattle.std.specs.List.{list_all}
-use Rattle.std.proofs.lemmas.Bool.{eqb-true, eq-eqb, ne_eqb}
+use Rattle.std.proofs.Common.{◌≡◌, ℕ, ◌<◌, ◌≤◌, List, [], ◌∷◌, ◌++◌, length, sym, ap, subst, ◌∙◌, arith}
+use Rattle.std.specs.Prelude.{IsTrue}
 use Rattle.rtm_items.specs.View.{DeckView}
-use Rattle.rtm_model.specs.Runs.{runs, program_fits, units_fit}
-use Rattle.rtm_items.specs.Reading.{program_of}
+use Rattle.rtm_items.specs.WellFormed.{is_well_formed}
+use Rattle.rtm_items.proofs.FormFacts.{Limits, limits}
 use Rattle.rtm_model.specs.declared.entry.Entry.{Entry}
-use Rattle.rtm_model.specs.declared.entry.What.{What}
-use Rattle.rtm_model.specs.Unit.{Core, core_of}
-use Rattle.rtm_model.specs.Next.{next_unit}
-use Rattle.rtm_model.specs.Advance.{advance_unit, CanApply}
-use Rattle.rtm_model.specs.History.{World, next, next_master, advance, world, Legal, master}
-use Rattle.rtm_model.proofs.Lists.{both_true}
-use Rattle.rtm_model.proofs.Histories.{can_apply, world_sound, world-append, Legal-append, world-nil, Legal-nil}
-use Rattle.rtm_model.specs.Sound.{IsSound}
-use Rattle.rtm_system.specs.View.{SystemView, StandsFor}
+use Rattle.rtm_model.specs.Births.{advance, world}
+use Rattle.rtm_model.specs.Legal.{Legal, MayFollow}
+use Rattle.rtm_model.specs.Soundness.{IsSound}
+use Rattle.rtm_model.specs.World.{World, start}
+use Rattle.rtm_sound.proofs.Histories.{Legal-append, Legal-nil, world-append, world-nil, world_sound}
+use Rattle.rtm_machine.specs.Follows.{Follows}
+use Rattle.rtm_machine.specs.Shape.{IsShaped}
+use Rattle.rtm_machine.proofs.Applying.{own_there}
+use Rattle.rtm_system.specs.Turned.{IsNext}
+use Rattle.rtm_system.specs.View.{StandsFor}
 
-pub starts : (d : DeckView) (unit : Core) (trace : List Entry) (room : ℕ) → IsTrue (runs d) → unit ≡ core_of (program_of d 0) → trace ≡ [] → d.limit ≤ room → StandsFor d unit false trace room
-starts d unit trace room f u t r =
-    subst (λ (h : List Entry). StandsFor d unit false h room) (sym t)
-    (subst (λ (c : Core). StandsFor d c false [] room) (sym u) (record { fits = f; world_is = world-nil d; legal = Legal-nil d; room_is = r }))
+pub starts : (d : DeckView) (machine : World) (trace : List Entry) (room last : ℕ) → machine ≡ start d → trace ≡ [] → d.limit ≤ room → last ≡ 0 → StandsFor d machine trace room last
+starts d machine trace room last m t r l = record {
+  world_is = ap (world d) t ∙ world-nil d ∙ sym m;
+  legal = subst (Legal d) (sym t) (Legal-nil d);
+  room_is = r;
+  last_in = omega arith;
+}
 
-chosen_true : {A : Type 0} (b : Bool) (x y z : A) → b ≡ true → (if b then x else y) ≡ z → x ≡ z
-chosen_true true x y z e h = h
-chosen_true false x y z e h = absurd cc
+-- what stands for a legal trace is sound
+pub stands_sound : (d : DeckView) (machine : World) (trace : List Entry) (room last : ℕ) → IsTrue (is_well_formed d) → StandsFor d machine trace room last → IsSound d (length trace) machine
+stands_sound d machine trace room last formed s = subst (IsSound d (length trace)) s.world_is (world_sound d trace formed s.legal)
 
-if_true : {A : Type 0} (b : Bool) (x y : A) → b ≡ true → (if b then x else y) ≡ x
-if_true true x y e = refl
-if_true false x y e = absurd cc
+pub shape_of : (d : DeckView) (n : ℕ) (w : World) → IsTrue (is_well_formed d) → IsSound d n w → IsShaped d w
+shape_of d n w formed s = record { units = s.units_len; lives = s.lives_len; few = Limits.units (limits d formed) }
 
-if_false : {A : Type 0} (b : Bool) (x y : A) → b ≡ false → (if b then x else y) ≡ y
-if_false true x y e = absurd cc
-if_false false x y e = refl
+pub stands_shaped : (d : DeckView) (machine : World) (trace : List Entry) (room last : ℕ) → IsTrue (is_well_formed d) → StandsFor d machine trace room last → IsShaped d machine
+stands_shaped d machine trace room last formed s = shape_of d (length trace) machine formed (stands_sound d machine trace room last formed s)
 
--- the first unit's next entry can be applied
-pub can_add : (d : DeckView) (unit : Core) (over : Bool) (trace : List Entry) (room : ℕ) (e : Entry) → StandsFor d unit over trace room
-    → next d (world d trace) e.unit ≡ Some e.what → e.unit ≡ 0 → CanApply d unit e.what
-can_add d unit over trace room e s given first =
-    let w : World = record { unit = unit; over = over } in
-    let sound : IsSound unit = subst (λ (v : World). IsSound v.unit) s.world_is (world_sound d trace s.fits s.legal) in
-    let here : next d w e.unit ≡ Some e.what = subst (λ (v : World). next d v e.unit ≡ Some e.what) s.world_is given in
-    can_apply d unit e.what s.fits sound (chosen_true (e.unit == 0) (next_unit d unit) (if e.unit == master d then next_master w else None) (Some e.what) (eq-eqb _ _ first) here)
+-- an entry that may follow the trace can be carried out
+pub can_follow : (d : DeckView) (machine : World) (trace : List Entry) (room last n : ℕ) (e : Entry) → IsTrue (is_well_formed d) → StandsFor d machine trace room last → n ≡ length trace
+    → MayFollow d (world d trace) (length trace) e e.what → Follows d n machine e
+can_follow d machine trace room last n e formed s count may =
+    let at : Follows d (length trace) machine e = record {
+      sound = stands_sound d machine trace room last formed s;
+      may = subst (λ (w : World). MayFollow d w (length trace) e e.what) s.world_is may;
+    } in subst (λ (k : ℕ). Follows d k machine e) (sym count) at
 
--- the world after one more entry
-one_more : (d : DeckView) (unit : Core) (over : Bool) (trace : List Entry) (room : ℕ) (e : Entry) → StandsFor d unit over trace room
-    → world d (trace ++ e ∷ []) ≡ advance d (record { unit = unit; over = over }) (length trace) e
-one_more d unit over trace room e s = world-append d trace e ∙ ap (λ (v : World). advance d v (length trace) e) s.world_is
+-- after one more entry
+pub adds : (d : DeckView) (machine new : World) (trace more : List Entry) (room space last now n : ℕ) (e : Entry) → StandsFor d machine trace room last → length trace < d.limit
+    → MayFollow d (world d trace) (length trace) e e.what → n ≡ length trace → new ≡ advance d machine n e → more ≡ trace ++ e ∷ [] → space ≡ room → now ≤ length d.units → StandsFor d new more space now
+adds d machine new trace more room space last now n e s below may count changed longer same in_deck = record {
+  world_is = ap (world d) longer ∙ world-append d trace e ∙ ap (λ (w : World). advance d w (length trace) e) s.world_is ∙ ap (λ (k : ℕ). advance d machine k e) (sym count) ∙ sym changed;
+  legal = subst (Legal d) (sym longer) (Legal-append d trace e s.legal below may);
+  room_is = omega (arith, s.room_is, same);
+  last_in = in_deck;
+}
 
--- after one more entry of the first unit
-pub adds_first : (d : DeckView) (unit new : Core) (over : Bool) (trace more : List Entry) (room space n : ℕ) (e : Entry) → StandsFor d unit over trace room
-    → length trace < d.limit → next d (world d trace) e.unit ≡ Some e.what → e.unit ≡ 0 → n ≡ length trace
-    → new ≡ advance_unit d n unit e.what → more ≡ trace ++ e ∷ [] → space ≡ room → StandsFor d new over more space
-adds_first d unit new over trace more room space n e s below given first count changed longer same =
-    let w : World = record { unit = unit; over = over } in
-    let legal : Legal d more = subst (Legal d) (sym longer) (Legal-append d trace e s.legal below given) in
-    let after : World = record { unit = advance_unit d (length trace) unit e.what; over = over } in
-    let first_is : advance d w (length trace) e ≡ after = if_true (e.unit == 0) after (record w { over = true }) (eq-eqb _ _ first) in
-    let is_new : after ≡ record { unit = new; over = over } = ap (λ (c : Core). record { unit = c; over = over }) (sym (changed ∙ ap (λ (k : ℕ). advance_unit d k unit e.what) count)) in
-    record {
-      fits = s.fits;
-      world_is = ap (world d) longer ∙ one_more d unit over trace room e s ∙ first_is ∙ is_new;
-      legal = legal;
-      room_is = subst (λ (r : ℕ). d.limit ≤ r) (sym same) s.room_is;
-    }
+pub shape_at : (d : DeckView) (machine : World) (trace : List Entry) (room last : ℕ) → IsTrue (is_well_formed d) → StandsFor d machine trace room last → IsShaped d (world d trace)
+shape_at d machine trace room last formed s = subst (IsShaped d) (sym s.world_is) (stands_shaped d machine trace room last formed s)
 
--- after one more entry of another unit, the master
-pub adds_master : (d : DeckView) (unit : Core) (over : Bool) (trace more : List Entry) (room space : ℕ) (e : Entry) → StandsFor d unit over trace room
-    → length trace < d.limit → next d (world d trace) e.unit ≡ Some e.what → e.unit ≢ 0
-    → more ≡ trace ++ e ∷ [] → space ≡ room → StandsFor d unit true more space
-adds_master d unit over trace more room space e s below given other longer same =
-    let w : World = record { unit = unit; over = over } in
-    let legal : Legal d more = subst (Legal d) (sym longer) (Legal-append d trace e s.legal below given) in
-    let second_is : advance d w (length trace) e ≡ record { unit = unit; over = true } = if_false (e.unit == 0) (record w { unit = advance_unit d (length trace) unit e.what }) (record w { over = true }) (ne_eqb _ _ other) in
-    record {
-      fits = s.fits;
-      world_is = ap (world d) longer ∙ one_more d unit over trace room e s ∙ second_is;
-      legal = legal;
-      room_is = subst (λ (r : ℕ). d.limit ≤ r) (sym same) s.room_is;
-    }
-
--- the requirement, of the fields
-pub of_fields : (v w : SystemView) (u : ℕ) (what : What) → v ≡ w → next w.deck (world w.deck w.trace) u ≡ Some what → next v.deck (world v.deck v.trace) u ≡ Some what
-of_fields v w u what e h = subst (λ (x : SystemView). next x.deck (world x.deck x.trace) u ≡ Some what) (sym e) h
-
--- the limit, of the fields
-pub limit_of_fields : (v w : SystemView) → v ≡ w → length w.trace < w.deck.limit → length v.trace < v.deck.limit
-limit_of_fields v w e h = subst (λ (x : SystemView). length x.trace < x.deck.limit) (sym e) h
+-- an entry that may stand next is of a unit of the deck, or the master's
+pub next_in_deck : (d : DeckView) (trace : List Entry) (e : Entry) → IsTrue (is_well_formed d) → Legal d trace → IsNext d trace e → e.unit ≤ length d.units
+next_in_deck d trace e formed legal next =
+    let sound = world_sound d trace formed legal in
+    let there = own_there d (length trace) (world d trace) e formed (record { sound = sound; may = next.may }) in
+    omega (arith, there, IsSound.units_len sound)

@@ -1,13 +1,21 @@
--- What a system answers to a step (this profile).
-use Rattle.std.specs.Prelude.{ℕ, Bool, true, false, nat_le, if◌then◌else◌, List, [], ◌∷◌, length, Option, Some, None}
+-- What a system answers to a step, and to a command that is to arrive (this profile).
+use Rattle.std.specs.Prelude.{Bool, List, None, Option, Some, [], false, if◌then◌else◌, is_some, length, nat_le, true, ℕ, ◌||◌, ◌∷◌}
 use Rattle.rtm_items.specs.View.{DeckView}
-use Rattle.rtm_model.specs.declared.entry.Entry.{Entry}
 use Rattle.rtm_model.specs.declared.entry.End.{End}
-use Rattle.rtm_model.specs.declared.entry.End.TheVariants.{Ended, Stalled, Limit}
+use Rattle.rtm_model.specs.declared.entry.End.TheVariants.{Ended, Limit, Stalled}
+use Rattle.rtm_model.specs.declared.entry.Entry.{Entry}
 use Rattle.rtm_model.specs.declared.entry.What.{What}
-use Rattle.rtm_model.specs.History.{World, world, next, end_in}
+use Rattle.rtm_model.specs.Arrivals.{arrival, target_of}
+use Rattle.rtm_model.specs.Births.{world}
+use Rattle.rtm_model.specs.Legal.{end_in}
+use Rattle.rtm_model.specs.NextEntry.{next}
+use Rattle.rtm_model.specs.Tasks.{Tree, has_ended, life_of}
+use Rattle.rtm_model.specs.Turns.{entry_of}
+use Rattle.rtm_model.specs.World.{Core, World, core_at}
+use Rattle.rtm_system.specs.declared.arrived.Arrived.{Arrived}
+use Rattle.rtm_system.specs.declared.arrived.Arrived.TheVariants as arrivals
 use Rattle.rtm_system.specs.declared.stepped.Stepped.{Stepped}
-use Rattle.rtm_system.specs.declared.stepped.Stepped.TheVariants.{Made, NotReady, AtLimit, IsOver}
+use Rattle.rtm_system.specs.declared.stepped.Stepped.TheVariants.{AtLimit, IsOver, Made, NotReady}
 
 -- nothing can be added: the address space has ended, or nobody goes on
 abbrev pub stops : Option End → Bool
@@ -19,11 +27,12 @@ stops None = false
 -- the unit's next entry is made
 abbrev pub made_by : ℕ → Option What → Stepped
 made_by u None = NotReady
-made_by u (Some what) = Made (record { unit = u; what = what })
+made_by u (Some what) = Made (entry_of u what)
 
 -- the answer after n entries, after which w lives
 abbrev pub stepped_in : DeckView → World → ℕ → ℕ → Stepped
-stepped_in d w n u = if stops (end_in d w n) then IsOver else if nat_le d.limit n then AtLimit else made_by u (next d w u)
+stepped_in d w n u =
+    if stops (end_in d w n) then IsOver else if nat_le d.limit n then AtLimit else made_by u (next d w u)
 
 -- the answer to a step of the unit after the trace
 abbrev pub stepped : DeckView → List Entry → ℕ → Stepped
@@ -35,3 +44,26 @@ entries_of (Made e) = e ∷ []
 entries_of NotReady = []
 entries_of AtLimit = []
 entries_of IsOver = []
+
+-- the command never arrives any more: its target has begun to end, has ended or was purged, or memory end has begun
+abbrev pub is_gone : DeckView → World → ℕ → Bool
+is_gone d w cmd =
+    has_ended (life_of (target_of d cmd) (Tree.lives w.tree)) || is_some (Core.begun (core_at (target_of d cmd) w)) || is_some w.memory_end
+
+-- it arrives
+abbrev pub arrives : Option Entry → Arrived
+arrives None = arrivals.NotYet
+arrives (Some e) = arrivals.Made e
+
+abbrev pub arrived_in : DeckView → World → ℕ → ℕ → Arrived
+arrived_in d w n cmd =
+    if is_gone d w cmd then arrivals.Gone else if nat_le d.limit n then arrivals.NotYet else arrives (arrival d w n cmd)
+
+-- the answer to the command of that number after the trace
+abbrev pub arrived : DeckView → List Entry → ℕ → Arrived
+arrived d trace cmd = arrived_in d (world d trace) (length trace) cmd
+
+abbrev pub entries_arrived : Arrived → List Entry
+entries_arrived (arrivals.Made e) = e ∷ []
+entries_arrived arrivals.NotYet = []
+entries_arrived arrivals.Gone = []

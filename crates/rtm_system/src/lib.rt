@@ -1,13 +1,15 @@
 //! The machine: runs a deck, one entry at a time, exactly as the definitions say.
 #![tactic(auto)]
 
-mod error_steps;
-mod room;
-mod runs;
+mod arrived;
+mod same;
 mod stepped;
 mod system;
-mod unit_state;
+mod turn;
 
-pub use runs::is_run;
+pub use arrived::Arrived;
 pub use stepped::Stepped;
 pub use system::System;
+
+#[cfg(test)]
+mod tests;

@@ -1,93 +1,68 @@
-//! The system: a deck's control blocks, and the trace that it has made.
+//! The system: a deck, what lives of it, and the trace that it has made.
 
-ghost use Rattle.std.specs.Prelude.{◌≡◌, ◌≢◌, ◌≤◌, ◌<◌, ◌++◌, ◌∷◌, [], length, IsTrue, IfOk};
-ghost use Rattle.rtm_model.specs.Runs.{runs};
+ghost use Rattle.std.specs.Prelude.{◌≡◌, ◌≤◌, ◌<◌, ◌++◌, ◌∷◌, ◌+◌, [], length, nat_le, not, IsTrue, IfOk, Some};
 ghost use Rattle.std.specs.List.{AllByRecursion};
-ghost use Rattle.rtm_model.specs.Fitting.{HasEntryCodesInRange};
-ghost use Rattle.rtm_model.specs.History.{next, next_master, goes_on, end_in, end_of, world, advance, Legal};
-ghost use Rattle.rtm_system.specs.Steps.{stops, stepped, stepped_in, entries_of};
+ghost use Rattle.rtm_items.specs.WellFormed.{is_well_formed};
+ghost use Rattle.rtm_model.specs.declared.entry.Entry.{Entry};
+ghost use Rattle.rtm_model.specs.Arrivals.{arrival, first_arrival, goes_on, may_arrive, target_of};
+ghost use Rattle.rtm_model.specs.Births.{world};
+ghost use Rattle.rtm_model.specs.Fits.{Fits};
+ghost use Rattle.rtm_model.specs.Legal.{Legal, MayFollow, end_of};
+ghost use Rattle.rtm_model.specs.NextEntry.{next};
+ghost use Rattle.rtm_model.specs.World.{World};
+ghost use Rattle.rtm_machine.specs.Shape.{IsShaped};
+ghost use Rattle.rtm_system.specs.Turned.{IsNext};
+ghost use Rattle.rtm_system.specs.Steps.{arrived, entries_arrived, entries_of, is_gone, stepped, stops};
 
-use crate::room;
+use crate::arrived::Arrived;
 use crate::stepped::Stepped;
-use crate::unit_state::UnitState;
+use rtm_board::Note;
 use rtm_codes::NoMemory;
 use rtm_items::Deck;
-use rtm_model::{End, Entry, What};
+use rtm_machine::Machine;
+use rtm_model::{End, Entry, Fate, What};
 use std::alloc::Global;
 use std::marker::Model;
 
-/// A deck that runs: its control blocks, and the trace that it has made so far.
+/// A deck that runs: what lives of it, and the trace that it has made so far.
 #[derive(Drop)]
 pub struct System {
     deck: Deck,
-    unit: UnitState,
-    over: bool,
+    machine: Machine,
     trace: Vec<Entry>,
+    /// The unit that went on last: it is asked first whether anybody does.
+    last: u16,
 }
 
 impl Model for System {
     ghost use Rattle.std.specs.Prelude.{vec_capacity};
-    ghost use Rattle.rtm_system.specs.View.{SystemView, StandsFor};
+    ghost use Rattle.rtm_system.specs.View.{StandsFor, SystemView};
 
     ghost Value = { SystemView };
 
     ghost view = { λ a. record { deck = a.deck; trace = a.trace.items } };
 
-    ghost invariant = { λ a. StandsFor a.deck a.unit a.over a.trace.items (vec_capacity a.trace) };
-}
-
-// The next entry of the unit of that number.
-fn next_of(deck: &Deck, state: &UnitState, over: bool, unit: u16) -> Option<What>
-    ensures { result ≡ next deck.now (record { unit = state.now; over = over }) unit }
-{
-    if unit == 0 {
-        state.next(deck)
-    } else if unit == deck.unit_count() && state.is_done() && !over {
-        Some(What::MemEnd)
-    } else {
-        None
-    }
-}
-
-// How the history ends.
-fn end_after(deck: &Deck, state: &UnitState, over: bool, entries: usize) -> Option<End>
-    ensures { result ≡ end_in deck.now (record { unit = state.now; over = over }) entries }
-{
-    if over {
-        return Some(End::Ended);
-    }
-    let goes_on = next_of(deck, state, over, 0).is_some()
-        || next_of(deck, state, over, deck.unit_count()).is_some();
-    if !goes_on {
-        Some(End::Stalled)
-    } else if entries >= deck.entry_limit() as usize {
-        Some(End::Limit)
-    } else {
-        None
-    }
+    ghost invariant = { λ a. StandsFor a.deck a.machine a.trace.items (vec_capacity a.trace) a.last };
 }
 
 impl System {
-    /// A system at its start, with all the memory that a run of the deck takes. The deck is one that is run so far, as
-    /// `is_run` says.
+    /// A system at its start, with all the memory that a run of the deck takes.
     pub fn new(alloc: Global, deck: Deck) -> Result<System, NoMemory>
-        requires { IsTrue (runs deck) }
         ensures { IfOk result (λ system. (system.deck ≡ deck) × (system.trace ≡ [])) }
     {
-        let unit = UnitState::new(alloc, deck.program_of(0))?;
+        let machine = Machine::new(alloc, &deck)?;
         let trace = Vec::with_capacity(alloc, deck.entry_limit() as usize)?;
         Ok(System {
             deck,
-            unit,
-            over: false,
+            machine,
             trace,
+            last: 0,
         })
     }
 
     /// The deck that runs.
     pub fn deck(&self) -> &Deck
         ensures value { result.now ≡ self.now.deck }
-        ensures runs { IsTrue (runs self.now.deck) }
     {
         &self.deck
     }
@@ -96,78 +71,219 @@ impl System {
     pub fn trace(&self) -> &[Entry]
         ensures value { result.now ≡ self.now.trace }
         ensures legal { Legal self.now.deck self.now.trace }
-        ensures codes { AllByRecursion HasEntryCodesInRange self.now.trace }
+        ensures fits { AllByRecursion (Fits self.now.deck) self.now.trace }
     {
+        self.deck.keeps_its_form();
         &self.trace
+    }
+
+    /// A law of the type, and no work: its world has a unit for each of the deck's.
+    fn is_shaped(&self)
+        ensures { IsShaped self.now.deck (world self.now.deck self.now.trace) }
+    {
+        self.deck.keeps_its_form();
+    }
+
+    pub(crate) fn next(&self, unit: u16) -> Option<What>
+        ensures { result ≡ next self.now.deck (world self.now.deck self.now.trace) unit }
+    {
+        self.is_shaped();
+        self.machine.next(&self.deck, unit)
+    }
+
+    /// The unit that went on last.
+    fn last(&self) -> u16
+        ensures { result ≤ length self.now.deck.units }
+    {
+        self.last
+    }
+
+    /// Whether some unit has a next entry. The one that went on last is asked first, and all only where that one has none.
+    #[tactic(auto, using(crate::proofs::Going::goes_on_by))]
+    fn goes_on(&self) -> bool
+        ensures { result ≡ goes_on self.now.deck (world self.now.deck self.now.trace) }
+    {
+        self.is_shaped();
+        self.next(self.last()).is_some() || self.machine.goes_on(&self.deck)
     }
 
     /// How the history ends, or none where it goes on.
     pub fn end(&self) -> Option<End>
         ensures { result ≡ end_of self.now.deck self.now.trace }
     {
-        end_after(&self.deck, &self.unit, self.over, self.trace.len())
+        if self.machine.is_over() {
+            return Some(End::Ended);
+        }
+        let quiet = !self.goes_on();
+        if quiet && self.first_arrival(quiet).is_none() {
+            Some(End::Stalled)
+        } else if self.is_at_limit() {
+            Some(End::Limit)
+        } else {
+            None
+        }
     }
 
-    /// Whether the address space has ended, or no unit has a next entry.
+    /// Whether the address space has ended, or no unit has a next entry and no command may arrive.
     pub fn is_over(&self) -> bool
         ensures { result ≡ stops (end_of self.now.deck self.now.trace) }
     {
         matches!(self.end(), Some(End::Ended | End::Stalled))
     }
 
-    fn next(&self, unit: u16) -> Option<What>
-        ensures { result ≡ next self.now.deck (world self.now.deck self.now.trace) unit }
+    /// Whether the history has as many entries as it may have.
+    pub(crate) fn is_at_limit(&self) -> bool
+        ensures { result ≡ nat_le self.now.deck.limit (length self.now.trace) }
     {
-        next_of(&self.deck, &self.unit, self.over, unit)
+        self.trace.len() >= self.deck.entry_limit() as usize
     }
 
-    // Adds the next entry of the job step task.
-    fn add_first(&mut self, what: What)
-        requires room { length self.old.trace < self.old.deck.limit }
-        requires next { next self.old.deck (world self.old.deck self.old.trace) 0 ≡ Some what }
-        ensures trace { self.new.trace ≡ self.old.trace ++ record { unit = 0; what = what } ∷ [] }
-        ensures deck { self.new.deck ≡ self.old.deck }
+    /// The arrival of the first command, in the order of the deck, that may arrive; `quiet` says that no unit has a next
+    /// entry.
+    pub(crate) fn first_arrival(&self, quiet: bool) -> Option<Entry>
+        ensures { result ≡ first_arrival self.now.deck (world self.now.deck self.now.trace) (length self.now.trace) quiet }
     {
-        let index = self.trace.len() as u32;
-        self.unit.apply(&self.deck, index, what);
-        room::put(&mut self.trace, Entry { unit: 0, what });
+        self.deck.keeps_its_form();
+        self.machine
+            .first_arrival(&self.deck, self.trace.len(), quiet)
     }
 
-    // Adds the next entry of the master unit.
-    fn add_last(&mut self, entry: Entry)
+    /// The arrival of the command whose turn it is in the order of a single thread, if one may arrive now.
+    pub fn next_arrival(&self) -> Option<Entry>
+        ensures { result ≡ first_arrival self.now.deck (world self.now.deck self.now.trace) (length self.now.trace) (not (goes_on self.now.deck (world self.now.deck self.now.trace))) }
+    {
+        self.first_arrival(!self.goes_on())
+    }
+
+    /// What becomes of the cancel that the command posts, where it may arrive. The limit of entries isn't asked.
+    pub fn may_arrive(&self, cmd: u8) -> Option<Fate>
+        ensures { result ≡ may_arrive self.now.deck (world self.now.deck self.now.trace) (length self.now.trace) cmd }
+    {
+        self.is_shaped();
+        self.machine.may_arrive(&self.deck, self.trace.len(), cmd)
+    }
+
+    /// Adds an entry that may follow. Whose turn it was last is told for the next question who goes on.
+    fn add(&mut self, entry: Entry, last: u16)
         requires room { length self.old.trace < self.old.deck.limit }
-        requires master { entry.unit ≢ 0 }
-        requires next { next self.old.deck (world self.old.deck self.old.trace) entry.unit ≡ Some entry.what }
+        requires follows { MayFollow self.old.deck (world self.old.deck self.old.trace) (length self.old.trace) entry entry.what }
+        requires last { last ≤ length self.old.deck.units }
         ensures trace { self.new.trace ≡ self.old.trace ++ entry ∷ [] }
         ensures deck { self.new.deck ≡ self.old.deck }
     {
-        self.over = true;
-        room::put(&mut self.trace, entry);
+        self.deck.keeps_its_form();
+        let index = self.trace.len() as u32;
+        self.machine.apply(&self.deck, index, &entry);
+        self.trace.push_reserved(entry);
+        self.last = last;
+    }
+
+    /// A law of the type, and no work: each entry that may stand next is of a unit of the deck, or the master's.
+    pub(crate) fn is_in_deck(&self)
+        ensures { (e : Entry) → IsNext self.now.deck self.now.trace e → e.unit ≤ length self.now.deck.units }
+    {
+        self.deck.keeps_its_form();
+    }
+
+    /// Adds an entry that may stand next.
+    pub fn append(&mut self, entry: Entry)
+        requires next { IsNext self.old.deck self.old.trace entry }
+        ensures trace { self.new.trace ≡ self.old.trace ++ entry ∷ [] }
+        ensures deck { self.new.deck ≡ self.old.deck }
+    {
+        self.is_in_deck();
+        self.add(entry, entry.unit);
     }
 
     /// Makes the next entry of the unit of that number, where it has one. The number of units is the master unit's.
+    #[tactic(auto, using(crate::proofs::Going::nothing_stops))]
     pub fn step(&mut self, unit: u16) -> Stepped
         requires { unit ≤ length self.old.deck.units }
         ensures answer { result ≡ stepped self.old.deck self.old.trace unit }
         ensures trace { self.new.trace ≡ self.old.trace ++ entries_of result }
         ensures deck { self.new.deck ≡ self.old.deck }
     {
-        if self.is_over() {
+        let next = self.next(unit);
+        match next {
+            Some(what) => self.make(unit, what),
+            None => {
+                if self.is_over() {
+                    Stepped::IsOver
+                } else if self.is_at_limit() {
+                    Stepped::AtLimit
+                } else {
+                    Stepped::NotReady
+                }
+            }
+        }
+    }
+
+    /// Makes that entry, which is the unit's next one, below the limit and where the run isn't over.
+    #[tactic(auto, using(crate::proofs::Going::nothing_stops, crate::proofs::Going::over_stops, crate::proofs::Following::next_follows))]
+    fn make(&mut self, unit: u16, what: What) -> Stepped
+        requires unit { unit ≤ length self.old.deck.units }
+        requires next { next self.old.deck (world self.old.deck self.old.trace) unit ≡ Some what }
+        ensures answer { result ≡ stepped self.old.deck self.old.trace unit }
+        ensures trace { self.new.trace ≡ self.old.trace ++ entries_of result }
+        ensures deck { self.new.deck ≡ self.old.deck }
+    {
+        if self.has_ended() {
             return Stepped::IsOver;
         }
-        if self.trace.len() >= self.deck.entry_limit() as usize {
+        if self.is_at_limit() {
             return Stepped::AtLimit;
         }
-        match self.next(unit) {
-            None => Stepped::NotReady,
-            Some(what) => {
+        let entry = Entry { unit, what };
+        self.add(entry, unit);
+        Stepped::Made(entry)
+    }
+
+    /// Whether the address space has ended.
+    pub(crate) fn has_ended(&self) -> bool
+        ensures { result ≡ World.over (world self.now.deck self.now.trace) }
+    {
+        self.machine.is_over()
+    }
+
+    /// The target of the command of that number.
+    pub(crate) fn target_of(&self, cmd: u8) -> u16
+        ensures value { result ≡ target_of self.now.deck cmd }
+    {
+        match self.deck.commands.get(cmd as usize) {
+            Some(command) => command.target,
+            None => 0,
+        }
+    }
+
+    /// Whether the command never arrives any more.
+    fn is_gone(&self, cmd: u8) -> bool
+        ensures { result ≡ is_gone self.now.deck (world self.now.deck self.now.trace) cmd }
+    {
+        self.machine.is_gone(self.target_of(cmd))
+    }
+
+    /// Makes the entry of a command's arrival, where it may arrive. The note is only looked at, and may be shown again.
+    pub fn arrive(&mut self, note: &Note) -> Arrived
+        ensures answer { result ≡ arrived self.old.deck self.old.trace note.now }
+        ensures trace { self.new.trace ≡ self.old.trace ++ entries_arrived result }
+        ensures deck { self.new.deck ≡ self.old.deck }
+    {
+        let cmd = note.cmd();
+        if self.is_gone(cmd) {
+            return Arrived::Gone;
+        }
+        if self.is_at_limit() {
+            return Arrived::NotYet;
+        }
+        match self.may_arrive(cmd) {
+            None => Arrived::NotYet,
+            Some(fate) => {
+                let unit = self.target_of(cmd);
+                let what = What::Arrive { cmd, fate };
                 let entry = Entry { unit, what };
-                if unit == 0 {
-                    self.add_first(what);
-                } else {
-                    self.add_last(entry);
-                }
-                Stepped::Made(entry)
+                let last = self.last();
+                self.add(entry, last);
+                Arrived::Made(entry)
             }
         }
     }

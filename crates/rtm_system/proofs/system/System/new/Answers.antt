@@ -1,7 +1,6 @@
-use Rattle.std.proofs.Common.{arith, ap, ◌∙◌}
-use Rattle.rtm_model.specs.Unit.{core_of}
+use Rattle.std.proofs.Common.{arith, refl}
 use Rattle.rtm_system.proofs.Standing.{starts}
 use Rattle.rtm_system.proofs.system.System.new.Goals as goal
 
 pub invariant_of-result : goal.invariant_of-result
-invariant_of-result c = starts _ _ _ _ c.requires (c.in_ok-unit.ensures ∙ ap core_of c.program_of.ensures) c.in_ok-trace.ensures.items (omega (arith, c.in_ok-trace.ensures.exact, c.entry_limit.ensures))
+invariant_of-result c = starts _ _ _ _ _ c.in_ok-machine.ensures c.in_ok-trace.ensures.items (omega (arith, c.in_ok-trace.ensures.exact, c.entry_limit.ensures)) refl

@@ -1,7 +1,0 @@
-use Rattle.std.proofs.Common.{◌==◌, not, rules}
-use Rattle.std.proofs.lemmas.Fn.{filter_same}
-use Rattle.rtm_model.specs.declared.reg.Reg.{Reg}
-use Rattle.rtm_system.proofs.room.drop_depth.Goals as goal
-
-pub returns-clause-items : goal.returns-clause-items
-returns-clause-items c = filter_same _ (λ (reg : Reg). not (reg.depth == c.args.depth)) _ (λ x b f' s. search rules) _ _ c.retain.ensures.filtered

@@ -1,0 +1,152 @@
+//! Whose turn it is on a single thread, and which entries may follow.
+
+ghost use Rattle.std.specs.Prelude.{◌≡◌, ◌≤◌, ◌+◌, ◌==◌, ◌↔◌, IfSome, IsTrue, Some, false, if◌then◌else◌, is_none, length, nat_le, suc};
+ghost use Rattle.std.specs.Option.{option_or};
+ghost use Rattle.rtm_model.specs.Arrivals.{arrival};
+ghost use Rattle.rtm_model.specs.Births.{world};
+ghost use Rattle.rtm_model.specs.Legal.{MayFollow};
+ghost use Rattle.rtm_model.specs.Turns.{turn};
+ghost use Rattle.rtm_model.specs.World.{World};
+ghost use Rattle.rtm_system.specs.Turned.{IsNext, arriving, turn_of, wanted};
+
+use crate::same::{is_entry, is_next};
+use crate::system::System;
+use rtm_model::{Entry, What};
+
+/// The unit after `unit`, round past the master, whose number is `count`.
+fn unit_after(count: u16, unit: u16) -> u16
+    requires { unit ≤ count }
+    ensures { result ≡ (if unit == count then 0 else unit + 1) }
+{
+    if unit == count { 0 } else { unit + 1 }
+}
+
+fn is_nobody(made: Option<Entry>) -> bool
+    ensures { result ≡ is_none made }
+{
+    match made {
+        None => true,
+        Some(_) => false,
+    }
+}
+
+fn first_of(arrival: Option<Entry>, made: Option<Entry>) -> Option<Entry>
+    ensures { result ≡ option_or arrival made }
+{
+    match arrival {
+        Some(entry) => Some(entry),
+        None => made,
+    }
+}
+
+/// The command whose arrival the entry is.
+fn arriving(what: What) -> Option<u8>
+    ensures { result ≡ arriving what }
+{
+    match what {
+        What::Arrive { cmd, .. } => Some(cmd),
+        _ => None,
+    }
+}
+
+impl System {
+    /// The entry of the first unit that has one, from `first` on and round past the master.
+    #[tactic(auto, using(crate::proofs::Rounds::round_begins, crate::proofs::Rounds::round_skips, crate::proofs::Rounds::round_finds, crate::proofs::Rounds::round_ends))]
+    fn round(&self, first: u16) -> Option<Entry>
+        requires { first ≤ length self.now.deck.units }
+        ensures { result ≡ turn self.now.deck (world self.now.deck self.now.trace) first (suc (length self.now.deck.units)) }
+    {
+        let count = self.deck().unit_count();
+        let mut unit = first;
+        'units: for _tried in 0..u32::from(count) + 1 {
+            if let Some(what) = self.next(unit) {
+                return Some(Entry { unit, what });
+            }
+            unit = unit_after(count, unit);
+        }
+        None
+    }
+
+    /// Whose turn it is, where the address space hasn't ended and there is room.
+    #[tactic(auto, using(crate::proofs::Rounds::turn_is))]
+    fn open_turn(&self, first: u16) -> Option<Entry>
+        requires unit { first ≤ length self.now.deck.units }
+        requires open { World.over (world self.now.deck self.now.trace) ≡ false }
+        requires room { nat_le self.now.deck.limit (length self.now.trace) ≡ false }
+        ensures { result ≡ turn_of self.now.deck self.now.trace first }
+    {
+        let made = self.round(first);
+        let arrival = self.first_arrival(is_nobody(made));
+        first_of(arrival, made)
+    }
+
+    #[tactic(auto, using(crate::proofs::Rounds::turn_ended, crate::proofs::Rounds::turn_full))]
+    fn whose_turn(&self, first: u16) -> Option<Entry>
+        requires { first ≤ length self.now.deck.units }
+        ensures { result ≡ turn_of self.now.deck self.now.trace first }
+    {
+        if self.has_ended() || self.is_at_limit() {
+            None
+        } else {
+            self.open_turn(first)
+        }
+    }
+
+    /// The entry that a single thread makes next, where the turn is at the unit of that number: the first arrival, else that
+    /// of the first unit from there on, round past the master, that has one. None where the history has an end.
+    #[tactic(auto, using(crate::proofs::Rounds::turn_follows, crate::proofs::Rounds::turn_in_deck))]
+    pub fn turn(&self, first: u16) -> Option<Entry>
+        requires { first ≤ length self.now.deck.units }
+        ensures which { result ≡ turn_of self.now.deck self.now.trace first }
+        ensures follows { IfSome result (IsNext self.now.deck self.now.trace) }
+        ensures in_deck { IfSome result (λ e. e.unit ≤ length self.now.deck.units) }
+    {
+        self.is_in_deck();
+        self.whose_turn(first)
+    }
+
+    /// The arrival of the command of that number, where it may arrive.
+    fn arrival(&self, cmd: u8) -> Option<Entry>
+        ensures { result ≡ arrival self.now.deck (world self.now.deck self.now.trace) (length self.now.trace) cmd }
+    {
+        match self.may_arrive(cmd) {
+            None => None,
+            Some(fate) => Some(Entry {
+                unit: self.target_of(cmd),
+                what: What::Arrive { cmd, fate },
+            }),
+        }
+    }
+
+    /// Whether the entry is the one that its unit, or the command that it lets arrive, makes now. The limit isn't asked.
+    #[tactic(auto, using(crate::proofs::Firsts::arrival_may, crate::proofs::Firsts::next_may))]
+    fn may_be(&self, entry: &Entry) -> bool
+        ensures { IsTrue result ↔ MayFollow self.now.deck (world self.now.deck self.now.trace) (length self.now.trace) entry.now entry.now.what }
+    {
+        match arriving(entry.what) {
+            Some(cmd) => is_entry(self.arrival(cmd), *entry),
+            None => is_next(self.next(entry.unit), entry.what),
+        }
+    }
+
+    /// Whether the entry may stand next.
+    pub fn may_follow(&self, entry: &Entry) -> bool
+        ensures { IsTrue result ↔ IsNext self.now.deck self.now.trace entry.now }
+    {
+        !self.is_at_limit() && self.may_be(entry)
+    }
+
+    /// The one entry that the unit of that number may make next: none where it has none, where there is no such unit, and
+    /// where the history has as many entries as it may have.
+    pub fn wanted(&self, unit: u16) -> Option<Entry>
+        ensures { result ≡ wanted self.now.deck self.now.trace unit }
+    {
+        if self.is_at_limit() {
+            return None;
+        }
+        match self.next(unit) {
+            None => None,
+            Some(what) => Some(Entry { unit, what }),
+        }
+    }
+}
