@@ -5,3 +5,5 @@ pub mod Starting
 pub mod Carrying
 pub mod Applying
 pub mod Arriving
+pub mod Asked
+pub mod Calm

@@ -2,3 +2,4 @@ pub mod Shape
 pub mod Posting
 pub mod Beyond
 pub mod Follows
+pub mod Asked

@@ -16,9 +16,10 @@ use crate::around::related_to;
 use crate::machine::Machine;
 use crate::{posted, units};
 use rtm_codes::Code;
-use rtm_items::{Command, Deck};
+use rtm_items::{Command, Deck, Op};
 use rtm_model::{Entry, Kind, What};
 use rtm_sdwa::Sdwa;
+use rtm_unit::op_at;
 
 impl Machine {
     /// An entry changes its own unit's control blocks.
@@ -126,8 +127,9 @@ impl Machine {
     {
         match *what {
             What::Exec { at, rc } => {
-                let op = deck.op_at(at.prog, at.op);
-                self.go_beyond_card(deck, index, unit, rc, &op);
+                let at_end = Op::Return;
+                let op = op_at(deck, at, &at_end);
+                self.go_beyond_card(deck, index, unit, rc, op);
             }
             What::Leave { kind, reg, .. } => self.leave(kind, reg),
             What::Arrive { cmd, .. } => {

@@ -1,16 +1,34 @@
-//! What a unit's next entry needs of others, all of it.
+//! What a unit's next entry needs of others: only what its case asks for, and plain constants for the rest.
 
-ghost use Rattle.std.specs.Prelude.{◌≡◌, slice_get};
-ghost use Rattle.rtm_model.specs.Outside.{around_card};
-ghost use Rattle.rtm_model.specs.World.{is_srb, related_to};
+ghost use Rattle.std.specs.Prelude.{◌≡◌};
+ghost use Rattle.rtm_model.specs.Outside.{op_here};
+ghost use Rattle.rtm_model.specs.World.{UnitOfWork, is_srb, master, related_to, unit_at};
+ghost use Rattle.rtm_machine.specs.Asked.{asked_by_card, asked_by_end, asked_by_memory_end, asked_of_master, is_ending};
 
 use crate::machine::Machine;
-use crate::outside::whose;
+use crate::outside::{managed, whose};
 use rtm_items::{Deck, Op, UnitKind};
-use rtm_model::Around;
+use rtm_model::{Around, Class, Fate};
+use rtm_unit::UnitState;
+
+/// What isn't asked for.
+const NOTHING_ASKED: Around = Around {
+    srb: false,
+    abort: None,
+    subtask: false,
+    manager: None,
+    holding: None,
+    crowded: false,
+    found: false,
+    unborn: false,
+    own: false,
+    fate: Fate::Late,
+    to_task: None,
+    to_step: None,
+};
 
 /// Whether the unit of that number is an SRB; the master is none.
-fn is_srb(deck: &Deck, unit: u16) -> bool
+pub(crate) fn is_srb(deck: &Deck, unit: u16) -> bool
     ensures { result ≡ is_srb deck.now unit }
 {
     match deck.units.get(unit as usize) {
@@ -29,25 +47,158 @@ pub(crate) fn related_to(deck: &Deck, unit: u16) -> Option<u16>
     }
 }
 
+/// Whether the unit has begun to end, and no inner bracket is open.
+pub(crate) fn is_ending(state: &UnitState) -> bool
+    ensures { result ≡ is_ending state.now.core }
+{
+    state.has_begun() && state.depth() == 0
+}
+
 impl Machine {
-    /// What the unit's next entry needs of others, where its next card is that one.
-    pub(crate) fn around(&self, deck: &Deck, unit: u16, op: &Op) -> Around
-        ensures { result ≡ around_card deck.now self.now unit op.now }
+    /// What the card asks of others, for a unit that stands at it.
+    #[inline(always)]
+    fn asked_by_card(&self, deck: &Deck, unit: u16, state: &UnitState, op: &Op) -> Around
+        requires { state.now ≡ unit_at unit self.now.units }
+        ensures { result ≡ asked_by_card deck.now self.now unit op.now }
     {
+        let asked = Around {
+            abort: state.first_abort(),
+            ..NOTHING_ASKED
+        };
+        match op {
+            Op::Return => Around {
+                subtask: self.tree.subtasks_left(unit),
+                ..asked
+            },
+            Op::Wait { event } => Around {
+                srb: is_srb(deck, unit),
+                found: self.tree.event_posted(*event),
+                ..asked
+            },
+            Op::WaitTask { unit: task } => Around {
+                srb: is_srb(deck, unit),
+                found: self.tree.ended(*task),
+                ..asked
+            },
+            Op::Post { event } => Around {
+                found: self.tree.event_posted(*event),
+                ..asked
+            },
+            Op::Get { .. } => Around {
+                crowded: self.holds.is_full(unit),
+                ..asked
+            },
+            Op::Free { class, id } => Around {
+                found: self.holds.find(unit, *class, *id).is_some(),
+                ..asked
+            },
+            Op::MgrAdd { .. } => Around {
+                srb: is_srb(deck, unit),
+                crowded: self.managers.is_full(),
+                ..asked
+            },
+            Op::MgrDelete { prog, space } => Around {
+                srb: is_srb(deck, unit),
+                found: self.managers.find(*prog, managed(unit, *space)).is_some(),
+                ..asked
+            },
+            Op::Attachx { unit: task, .. } => Around {
+                srb: is_srb(deck, unit),
+                unborn: self.tree.dormant(*task),
+                ..asked
+            },
+            Op::Schedule { unit: srb } => Around {
+                unborn: self.tree.dormant(*srb),
+                ..asked
+            },
+            Op::Detach { unit: task, .. } => Around {
+                srb: is_srb(deck, unit),
+                own: self.tree.attached(unit, *task),
+                fate: self.fate_in(*task, Class::Detach),
+                ..asked
+            },
+            Op::Abterm { unit: task, .. } => Around {
+                fate: self.fate_in(*task, Class::Abterm),
+                ..asked
+            },
+            Op::Link { .. }
+            | Op::Xctl { .. }
+            | Op::EstaexCt { .. }
+            | Op::EstaexOv { .. }
+            | Op::EstaexZero => Around {
+                srb: is_srb(deck, unit),
+                ..asked
+            },
+            _ => asked,
+        }
+    }
+
+    /// What the card asks at which the unit stands.
+    #[inline(always)]
+    pub(crate) fn asked_here(&self, deck: &Deck, unit: u16, state: &UnitState) -> Around
+        requires { state.now ≡ unit_at unit self.now.units }
+        ensures { result ≡ asked_by_card deck.now self.now unit (op_here deck.now state.now.core) }
+    {
+        self.asked_by_card(deck, unit, state, state.card_here(deck, &Op::Return))
+    }
+
+    /// What the end of the unit asks, one after the other.
+    #[inline(never)]
+    pub(crate) fn asked_by_end(&self, deck: &Deck, unit: u16) -> Around
+        ensures { result ≡ asked_by_end deck.now self.now unit }
+    {
+        if self.tree.subtasks_left(unit) {
+            return Around {
+                subtask: true,
+                ..NOTHING_ASKED
+            };
+        }
         let owner = whose(deck, unit);
+        if let Some(manager) = self.managers.next(owner) {
+            return Around {
+                manager: Some(manager),
+                ..NOTHING_ASKED
+            };
+        }
+        if let Some(holding) = self.holds.next_release(owner) {
+            return Around {
+                holding: Some(holding),
+                ..NOTHING_ASKED
+            };
+        }
         Around {
-            srb: is_srb(deck, unit),
-            abort: self.first_abort(unit),
-            subtask: self.tree.subtasks_left(unit),
-            manager: self.managers.next(owner),
-            holding: self.holds.next_release(owner),
-            crowded: self.is_crowded(unit, op),
-            found: self.is_found(unit, op),
-            unborn: self.is_unborn(op),
-            own: self.is_own(unit, op),
-            fate: self.card_fate(op),
             to_task: self.related_fate(related_to(deck, unit)),
             to_step: self.step_fate(deck, unit),
+            ..NOTHING_ASKED
+        }
+    }
+
+    /// What memory end asks.
+    fn asked_by_memory_end(&self) -> Around
+        ensures { result ≡ asked_by_memory_end self.now }
+    {
+        if let Some(manager) = self.managers.next(None) {
+            return Around {
+                manager: Some(manager),
+                ..NOTHING_ASKED
+            };
+        }
+        Around {
+            holding: self.holds.next_release(None),
+            ..NOTHING_ASKED
+        }
+    }
+
+    /// What the master's next entry asks at memory end.
+    #[inline(never)]
+    pub(crate) fn asked_of_master(&self, deck: &Deck, state: &UnitState) -> Around
+        requires { state.now ≡ unit_at (master deck.now) self.now.units }
+        ensures { result ≡ asked_of_master deck.now self.now }
+    {
+        if state.depth() == 0 {
+            self.asked_by_memory_end()
+        } else {
+            self.asked_here(deck, deck.unit_count(), state)
         }
     }
 }

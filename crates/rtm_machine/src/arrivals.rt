@@ -53,10 +53,13 @@ impl Machine {
     }
 
     /// Whether the target's earlier commands have arrived, and this one hasn't.
+    #[tactic(auto, using(crate::proofs::Arriving::more_have_arrived))]
     fn is_in_turn(&self, deck: &Deck, target: u16, cmd: usize) -> bool
         ensures { result ≡ is_in_turn deck.now self.now target cmd }
     {
-        earlier(&deck.commands, target, cmd) == arrived_at(&self.units, target)
+        let arrived = arrived_at(&self.units, target);
+        // No more than `cmd` commands stand before that one, so where more have arrived none is counted.
+        arrived <= cmd && earlier(&deck.commands, target, cmd) == arrived
     }
 
     /// What becomes of the cancel that the command of that number posts, where it may arrive after `entries` entries;

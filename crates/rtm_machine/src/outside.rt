@@ -2,23 +2,13 @@
 
 ghost use Rattle.std.specs.Prelude.{◌≡◌, ◌==◌, is_some, Some, None, slice_get};
 ghost use Rattle.rtm_model.specs.Aborts.{first_abort, fate_of};
-ghost use Rattle.rtm_model.specs.Outside.{is_late, fate_in, whose, managed, is_crowded, is_found, is_unborn, is_own, card_fate, related_fate, step_fate};
+ghost use Rattle.rtm_model.specs.Outside.{is_late, fate_in, whose, managed, related_fate, step_fate};
 ghost use Rattle.rtm_model.specs.World.{Core, UnitOfWork, core_at, is_srb, lives_in, related_to, unit_at};
 
 use crate::machine::Machine;
-use rtm_items::{Deck, Op};
-use rtm_model::{Abort, Class, Fate};
+use rtm_items::Deck;
+use rtm_model::{Class, Fate};
 use rtm_unit::UnitState;
-
-/// The first abort that is pending for the unit of that number.
-fn first_abort(units: &[UnitState], unit: u16) -> Option<Abort>
-    ensures { result ≡ first_abort (UnitOfWork.pending (unit_at unit units.now)) }
-{
-    match units.get(unit as usize) {
-        Some(state) => state.first_abort(),
-        None => None,
-    }
-}
 
 /// Whether the unit of that number has begun to end.
 fn has_begun(units: &[UnitState], unit: u16) -> bool
@@ -42,12 +32,6 @@ fn fate_at(units: &[UnitState], unit: u16, class: Class, late: bool) -> Fate
 }
 
 impl Machine {
-    pub(crate) fn first_abort(&self, unit: u16) -> Option<Abort>
-        ensures { result ≡ first_abort (UnitOfWork.pending (unit_at unit self.now.units)) }
-    {
-        first_abort(&self.units, unit)
-    }
-
     pub(crate) fn has_begun(&self, unit: u16) -> bool
         ensures { result ≡ is_some (Core.begun (core_at unit self.now)) }
     {
@@ -64,61 +48,6 @@ impl Machine {
         ensures { result ≡ fate_in self.now unit class }
     {
         fate_at(&self.units, unit, class, self.is_late(unit))
-    }
-
-    pub(crate) fn is_crowded(&self, unit: u16, op: &Op) -> bool
-        ensures { result ≡ is_crowded self.now unit op.now }
-    {
-        match op {
-            Op::Get { .. } => self.holds.is_full(unit),
-            Op::MgrAdd { .. } => self.managers.is_full(),
-            _ => false,
-        }
-    }
-
-    pub(crate) fn is_found(&self, unit: u16, op: &Op) -> bool
-        ensures { result ≡ is_found self.now unit op.now }
-    {
-        match op {
-            Op::Free { class, id } => self.holds.find(unit, *class, *id).is_some(),
-            Op::MgrDelete { prog, space } => self
-                .managers
-                .find(*prog, managed(unit, *space))
-                .is_some(),
-            Op::Wait { event } => self.tree.event_posted(*event),
-            Op::Post { event } => self.tree.event_posted(*event),
-            Op::WaitTask { unit } => self.tree.ended(*unit),
-            _ => false,
-        }
-    }
-
-    pub(crate) fn is_unborn(&self, op: &Op) -> bool
-        ensures { result ≡ is_unborn self.now op.now }
-    {
-        match op {
-            Op::Attachx { unit, .. } => self.tree.dormant(*unit),
-            Op::Schedule { unit } => self.tree.dormant(*unit),
-            _ => false,
-        }
-    }
-
-    pub(crate) fn is_own(&self, unit: u16, op: &Op) -> bool
-        ensures { result ≡ is_own self.now unit op.now }
-    {
-        match op {
-            Op::Detach { unit: target, .. } => self.tree.attached(unit, *target),
-            _ => false,
-        }
-    }
-
-    pub(crate) fn card_fate(&self, op: &Op) -> Fate
-        ensures { result ≡ card_fate self.now op.now }
-    {
-        match op {
-            Op::Detach { unit, .. } => self.fate_in(*unit, Class::Detach),
-            Op::Abterm { unit, .. } => self.fate_in(*unit, Class::Abterm),
-            _ => Fate::Late,
-        }
     }
 
     pub(crate) fn related_fate(&self, task: Option<u16>) -> Option<Fate>

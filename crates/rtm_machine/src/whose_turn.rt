@@ -1,19 +1,73 @@
 //! The one entry that a unit may make next, and whether any has one.
 
-ghost use Rattle.std.specs.Prelude.{◌≡◌, ◌<◌, ◌≤◌, ◌^◌, length, position, slice_get, not};
+ghost use Rattle.std.specs.Prelude.{◌≡◌, true, ◌<◌, ◌≤◌, ◌^◌, length, position, slice_get, not};
 ghost use Rattle.rtm_model.specs.Arrivals.{goes_on};
 ghost use Rattle.rtm_model.specs.NextEntry.{next, next_of_unit, next_of_master, next_unit, next_master};
-ghost use Rattle.rtm_model.specs.Outside.{around, op_here};
+ghost use Rattle.rtm_model.specs.Outside.{around};
 ghost use Rattle.rtm_model.specs.Tasks.{Tree, is_living};
+ghost use Rattle.rtm_machine.specs.Asked.{is_ending, waits_at};
 ghost use Rattle.rtm_machine.specs.Shape.{IsShaped};
-ghost use Rattle.rtm_model.specs.World.{World, core_at, lives_in, master};
+ghost use Rattle.rtm_unit.specs.Calm.{is_calm};
+ghost use Rattle.rtm_model.specs.World.{World, core_at, lives_in, master, unit_at};
 
+use crate::around::{is_ending, is_srb};
 use crate::machine::Machine;
 use rtm_codes::Code;
-use rtm_items::Deck;
+use rtm_items::{Deck, Op};
 use rtm_model::What;
+use rtm_unit::UnitState;
+
+/// Whether the unit waits at a card of WAIT or WAITT, where what it waits for is there or not.
+#[inline(always)]
+fn waits(deck: &Deck, unit: u16, state: &UnitState, found: bool) -> bool
+    ensures { result ≡ waits_at deck.now unit state.now.core found }
+{
+    !found && !is_srb(deck, unit) && state.may_wait()
+}
 
 impl Machine {
+    /// The next entry of a unit that ends.
+    #[tactic(auto, using(crate::proofs::Asked::same_at_its_end))]
+    #[inline(never)]
+    fn next_of_ending(&self, deck: &Deck, unit: u16, state: &UnitState) -> Option<What>
+        requires state { state.now ≡ unit_at unit self.now.units }
+        requires ending { is_ending state.now.core ≡ true }
+        ensures { result ≡ next_unit deck.now (core_at unit self.now) (around deck.now self.now unit) }
+    {
+        state.next(deck, &self.asked_by_end(deck, unit))
+    }
+
+    /// The next entry of a unit, by its case.
+    #[tactic(auto, using(crate::proofs::Asked::same_at_its_card))]
+    #[inline(never)]
+    fn next_by_case(&self, deck: &Deck, unit: u16, state: &UnitState) -> Option<What>
+        requires state { state.now ≡ unit_at unit self.now.units }
+        ensures { result ≡ next_unit deck.now (core_at unit self.now) (around deck.now self.now unit) }
+    {
+        if is_ending(state) {
+            self.next_of_ending(deck, unit, state)
+        } else {
+            state.next(deck, &self.asked_here(deck, unit, state))
+        }
+    }
+
+    /// The next entry of a unit that goes on with its card: the cards that are met most need no look at the rest.
+    #[tactic(auto, using(crate::proofs::Calm::executes_nop, crate::proofs::Calm::executes_branch, crate::proofs::Calm::waits_for_event, crate::proofs::Calm::waits_for_task))]
+    #[inline(always)]
+    fn next_by_card(&self, deck: &Deck, unit: u16, state: &UnitState) -> Option<What>
+        requires state { state.now ≡ unit_at unit self.now.units }
+        requires calm { is_calm state.now ≡ true }
+        ensures { result ≡ next_unit deck.now (core_at unit self.now) (around deck.now self.now unit) }
+    {
+        match state.card_here(deck, &Op::Return) {
+            Op::Nop => state.executed(),
+            Op::Branch { .. } => state.executed(),
+            Op::Wait { event } if waits(deck, unit, state, self.tree.event_posted(*event)) => None,
+            Op::WaitTask { unit: task } if waits(deck, unit, state, self.tree.ended(*task)) => None,
+            _ => self.next_by_case(deck, unit, state),
+        }
+    }
+
     /// The next entry of the unit of that number, where it lives and memory end hasn't begun.
     fn next_of_living(&self, deck: &Deck, unit: u16) -> Option<What>
         ensures { result ≡ next_unit deck.now (core_at unit self.now) (around deck.now self.now unit) }
@@ -21,22 +75,47 @@ impl Machine {
         match self.units.get(unit as usize) {
             None => None,
             Some(state) => {
-                let op = state.op_here(deck);
-                state.next(deck, &self.around(deck, unit, &op))
+                if state.is_calm() {
+                    self.next_by_card(deck, unit, state)
+                } else {
+                    self.next_by_case(deck, unit, state)
+                }
             }
         }
     }
 
     /// The master's next entry at memory end, of that end code.
-    fn next_of_master(&self, deck: &Deck, code: Code) -> Option<What>
+    #[tactic(auto, using(crate::proofs::Asked::same_next_of_master))]
+    #[inline(never)]
+    fn next_at_memory_end(&self, deck: &Deck, code: Code) -> Option<What>
         requires shape { IsShaped deck.now self.now }
         ensures { result ≡ next_master deck.now (core_at (master deck.now) self.now) (around deck.now self.now (master deck.now)) code (position is_living (Tree.lives (World.tree self.now))) }
     {
-        let unit = deck.unit_count();
-        let op = self.units[unit as usize].op_here(deck);
-        let around = self.around(deck, unit, &op);
+        let state = &self.units[deck.unit_count() as usize];
         let living = self.tree.first_living();
-        self.units[unit as usize].next_at_memory_end(deck, &around, code, living)
+        state.next_at_memory_end(deck, &self.asked_of_master(deck, state), code, living)
+    }
+
+    fn next_of_master(&self, deck: &Deck) -> Option<What>
+        requires shape { IsShaped deck.now self.now }
+        ensures { result ≡ next_of_master deck.now self.now (World.memory_end self.now) }
+    {
+        let code = self.memory_end?;
+        if self.over {
+            None
+        } else {
+            self.next_at_memory_end(deck, code)
+        }
+    }
+
+    fn next_of_unit(&self, deck: &Deck, unit: u16) -> Option<What>
+        ensures { result ≡ next_of_unit deck.now self.now unit (World.memory_end self.now) }
+    {
+        match self.memory_end {
+            Some(_) => None,
+            None if self.tree.living(unit) => self.next_of_living(deck, unit),
+            None => None,
+        }
     }
 
     /// The one entry that the unit of that number may make next; the number of units is the master's.
@@ -45,27 +124,9 @@ impl Machine {
         ensures { result ≡ next deck.now self.now unit }
     {
         if unit == deck.unit_count() {
-            match self.memory_end {
-                None => None,
-                Some(code) => {
-                    if self.over {
-                        None
-                    } else {
-                        self.next_of_master(deck, code)
-                    }
-                }
-            }
+            self.next_of_master(deck)
         } else {
-            match self.memory_end {
-                Some(_) => None,
-                None => {
-                    if self.tree.living(unit) {
-                        self.next_of_living(deck, unit)
-                    } else {
-                        None
-                    }
-                }
-            }
+            self.next_of_unit(deck, unit)
         }
     }
 

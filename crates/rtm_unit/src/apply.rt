@@ -4,6 +4,7 @@ ghost use Rattle.std.specs.Prelude.{◌≡◌, ◌<◌, ◌==◌, [], find, IfSo
 ghost use Rattle.std.specs.Option.{option_map};
 ghost use Rattle.rtm_codes.specs.Code.{IsInRange};
 ghost use Rattle.rtm_items.specs.Reading.{op_at};
+ghost use Rattle.rtm_items.specs.declared.op.Op.TheVariants.{Return};
 ghost use Rattle.rtm_model.specs.Births.{asks_dump, asks_step, entered, error_record, manager_routine, own_entry, routine_named, with_error, with_landed};
 ghost use Rattle.rtm_model.specs.NextEntry.{card_record, landed_record};
 ghost use Rattle.rtm_model.specs.Soundness.{IsPlace};
@@ -11,7 +12,7 @@ ghost use Rattle.rtm_model.specs.declared.entry.What.TheVariants.{Exec};
 ghost use Rattle.rtm_unit.specs.Applying.{CanApplyTo, CanBeEntered, HasRoomFor, IsFitting};
 
 use crate::control_blocks::ControlBlocks;
-use crate::own_card;
+use crate::{here, own_card};
 use rtm_codes::Code;
 use rtm_ending::Managers;
 use rtm_items::{Deck, Op};
@@ -34,12 +35,13 @@ const NO_FLAGS: RecordFlags = RecordFlags {
 
 /// The card at a place.
 #[tactic(auto, using(crate::proofs::Fitting::card_is_fitting))]
-fn card_at(deck: &Deck, at: Place) -> Op
-    ensures value { result ≡ op_at deck.now at.prog at.op }
-    ensures fitting { IsFitting result }
+fn card_at<'d>(deck: &'d Deck, at: Place, at_end: &'d Op) -> &'d Op
+    requires { at_end.now ≡ Return }
+    ensures value { result.now ≡ op_at deck.now at.prog at.op }
+    ensures fitting { IsFitting result.now }
 {
     deck.keeps_its_form();
-    deck.op_at(at.prog, at.op)
+    here::op_at(deck, at, at_end)
 }
 
 /// The record of a card's error, in a unit that is doomed or not.
@@ -173,9 +175,10 @@ impl ControlBlocks {
     {
         // What is read says that a program has few cards, so that a place has another behind it.
         let _cards = deck.lines_of(at.prog);
-        let op = card_at(deck, at);
-        let place = own_card::place_after(deck, at, rc, &op);
-        self.own_card(index, place, &op);
+        let at_end = Op::Return;
+        let op = card_at(deck, at, &at_end);
+        let place = own_card::place_after(deck, at, rc, op);
+        self.own_card(index, place, op);
     }
 
     /// The entry of that index changes the unit, of which that abort is the first that is pending.
@@ -193,7 +196,7 @@ impl ControlBlocks {
     {
         match *what {
             What::Exec { at, rc } => self.execute(deck, index, at, rc),
-            What::Error { at, mark } => self.open_error(mark, &deck.op_at(at.prog, at.op)),
+            What::Error { at, mark } => self.open_error(mark, here::op_at(deck, at, &Op::Return)),
             What::Land { .. } => self.land(abort),
             What::Enter { kind, reg, .. } => {
                 let routine = self.routine_named(kind, reg, managers);

@@ -184,6 +184,7 @@ impl ControlBlocks {
     }
 
     /// What the card does where no error of mode applies.
+    #[inline(always)]
     fn row(&self, around: &Around, op: &Op) -> Outcome
         ensures { result ≡ row self.now around.now op.now }
     {
@@ -222,6 +223,7 @@ impl ControlBlocks {
     }
 
     /// What the card does: an error of mode comes first.
+    #[inline(always)]
     pub(crate) fn outcome(&self, around: &Around, op: &Op) -> Outcome
         ensures { result ≡ outcome self.now around.now op.now }
     {

@@ -2,9 +2,11 @@
 
 ghost use Rattle.std.specs.Prelude.{◌≡◌, ◌<◌, [], IfOk};
 ghost use Rattle.rtm_model.specs.World.{UnitOfWork, unborn};
+ghost use Rattle.rtm_items.specs.declared.op.Op.TheVariants.{Return};
 ghost use Rattle.rtm_model.specs.Outside.{op_here};
 ghost use Rattle.rtm_model.specs.Births.{purged_core, ending};
 
+use crate::here;
 use rtm_blocks::Blocks;
 use rtm_chains::{EstaeChain, EstaiList, FrrStack};
 use rtm_codes::{Code, NoMemory};
@@ -87,6 +89,14 @@ impl ControlBlocks {
     {
         let place = self.blocks.place();
         deck.op_at(place.prog, place.op)
+    }
+
+    /// The same, in the deck itself; behind the last card `at_end`, the RETURN that the caller brings along.
+    pub(crate) fn card_here<'d>(&self, deck: &'d Deck, at_end: &'d Op) -> &'d Op
+        requires { at_end.now ≡ Return }
+        ensures { result.now ≡ op_here deck.now self.now }
+    {
+        here::op_at(deck, self.blocks.place(), at_end)
     }
 
     /// The unit is purged: its control blocks go.

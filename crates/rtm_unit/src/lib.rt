@@ -4,6 +4,7 @@
 mod apply;
 mod cards;
 mod control_blocks;
+mod here;
 pub mod laws;
 mod leave;
 mod modes;
@@ -13,4 +14,5 @@ mod state;
 #[cfg(test)]
 mod tests;
 
+pub use here::op_at;
 pub use state::UnitState;

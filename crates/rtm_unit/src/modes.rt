@@ -61,6 +61,7 @@ fn wants_routine(op: &Op) -> bool
 
 impl ControlBlocks {
     /// The code of the card's error of mode, if it has one.
+    #[inline(always)]
     pub(crate) fn mode_error(&self, around: &Around, op: &Op) -> Option<Code>
         ensures { result ≡ mode_error self.now around.now op.now }
     {

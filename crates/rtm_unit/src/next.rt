@@ -1,13 +1,16 @@
 //! The entry that a unit makes next.
 
 ghost use Rattle.std.specs.Prelude.{◌≡◌, ◌==◌, ◌&&◌, if◌then◌else◌, false};
+ghost use Rattle.std.specs.Option.{option_map};
 ghost use Rattle.rtm_model.specs.Blocks.{without_bracket};
+ghost use Rattle.rtm_model.specs.Levels.{current, error_in};
 ghost use Rattle.rtm_model.specs.NextEntry.{beginning, carded, carded_at, carded_by, done, eligible, ends_step, entering, failing, going_on, handled, interruptible, is_dumped, is_from_error, is_logged, is_outermost, is_retry, landed, landing, left, left_with, managed_or, master_act, next_master, next_unit, normal_end, released_or, retry_birth, retry_prog, returned, unit_act, with_subtasks};
 
 use crate::control_blocks::{Begun, ControlBlocks};
+use crate::here;
 use rtm_aborts::interruptible;
 use rtm_codes::Code;
-use rtm_items::Deck;
+use rtm_items::{Deck, Op};
 use rtm_model::{
     Abort, Around, Block, Holding, Kind, Manager1, Mark, Outcome, Place, Reg, Verdict, What,
 };
@@ -191,6 +194,7 @@ impl Begun {
     }
 
     /// The next act of a unit that has begun to end.
+    #[inline(always)]
     fn unit_act(&self, around: &Around) -> Option<What>
         ensures { result ≡ unit_act self.now around.now }
     {
@@ -242,8 +246,9 @@ impl ControlBlocks {
     fn landing(&self, around: &Around) -> Option<Abort>
         ensures { result ≡ landing self.now around.now }
     {
+        let abort = around.abort?;
         if self.is_interruptible() {
-            around.abort
+            Some(abort)
         } else {
             None
         }
@@ -269,6 +274,7 @@ impl ControlBlocks {
     }
 
     /// The routine that runs is left.
+    #[inline(never)]
     fn left(&self, deck: &Deck, reg: Reg) -> What
         ensures { result ≡ left deck.now self.now reg }
     {
@@ -289,6 +295,7 @@ impl ControlBlocks {
         }
     }
 
+    #[inline(always)]
     fn carded_by(&self, deck: &Deck, around: &Around, at: Place, outcome: Outcome) -> Option<What>
         ensures { result ≡ carded_by deck.now self.now around.now at outcome }
     {
@@ -303,15 +310,21 @@ impl ControlBlocks {
         }
     }
 
+    #[inline(always)]
     fn carded_at(&self, deck: &Deck, around: &Around, block: Option<Block>) -> Option<What>
         ensures { result ≡ carded_at deck.now self.now around.now block }
     {
         let at = block?.place;
-        let op = deck.op_at(at.prog, at.op);
-        self.carded_by(deck, around, at, self.outcome(around, &op))
+        self.carded_by(
+            deck,
+            around,
+            at,
+            self.outcome(around, here::op_at(deck, at, &Op::Return)),
+        )
     }
 
     /// What the card at which the unit stands does.
+    #[inline(always)]
     fn carded(&self, deck: &Deck, around: &Around) -> Option<What>
         ensures { result ≡ carded deck.now self.now around.now }
     {
@@ -324,25 +337,38 @@ impl ControlBlocks {
         self.levels.depth() == 0
     }
 
-    fn going_on(&self, deck: &Deck, around: &Around, begun: Option<Begun>) -> Option<What>
-        ensures { result ≡ going_on deck.now self.now around.now begun }
+    #[inline(always)]
+    fn going_on(&self, deck: &Deck, around: &Around) -> Option<What>
+        ensures { result ≡ going_on deck.now self.now around.now self.now.begun }
     {
-        match begun {
+        match &self.begun {
             Some(begun) if self.is_outermost() => begun.unit_act(around),
             _ => self.carded(deck, around),
         }
     }
 
+    /// What the error leads to that is open in the innermost bracket, if one is.
+    #[inline(never)]
+    fn handling(&self) -> Option<What>
+        ensures { result ≡ option_map (λ r. handled r (eligible self.now r) (current self.now.levels)) (error_in self.now.levels) }
+    {
+        match self.levels.error() {
+            Some(error) => Some(handled(&error, self.eligible(&error), self.levels.current())),
+            None => None,
+        }
+    }
+
     /// The entry that the unit makes next, while it lives.
+    #[inline(always)]
     pub(crate) fn next(&self, deck: &Deck, around: &Around) -> Option<What>
         ensures { result ≡ next_unit deck.now self.now around.now }
     {
-        if let Some(error) = self.levels.error() {
-            return Some(handled(&error, self.eligible(&error), self.levels.current()));
+        if self.levels.error_here() {
+            return self.handling();
         }
         match self.landing(around) {
             Some(abort) => Some(landed(abort)),
-            None => self.going_on(deck, around, self.begun),
+            None => self.going_on(deck, around),
         }
     }
 
@@ -356,8 +382,8 @@ impl ControlBlocks {
     ) -> Option<What>
         ensures { result ≡ next_master deck.now self.now around.now code living }
     {
-        if let Some(error) = self.levels.error() {
-            return Some(handled(&error, self.eligible(&error), self.levels.current()));
+        if self.levels.error_here() {
+            return self.handling();
         }
         if self.is_outermost() {
             Some(master_act(code, living, around))

@@ -5,9 +5,14 @@ ghost use Rattle.rtm_model.specs.Births.{cause_of, own_change, own_pending, purg
 ghost use Rattle.rtm_model.specs.Chains.{inherited};
 ghost use Rattle.rtm_model.specs.Levels.{depth_in, error_here};
 ghost use Rattle.rtm_model.specs.NextEntry.{next_master, next_unit};
+ghost use Rattle.rtm_items.specs.declared.op.Op.TheVariants.{Return};
 ghost use Rattle.rtm_model.specs.Outside.{op_here};
 ghost use Rattle.rtm_model.specs.World.{at_birth, unborn};
+ghost use Rattle.rtm_model.specs.Blocks.{newest_block};
+ghost use Rattle.rtm_model.specs.declared.block.Block.{Block};
+ghost use Rattle.rtm_model.specs.declared.entry.What.TheVariants.{Exec};
 ghost use Rattle.rtm_unit.specs.Applying.{CanApplyTo};
+ghost use Rattle.rtm_unit.specs.Calm.{is_calm, may_wait};
 
 use crate::control_blocks::ControlBlocks;
 use rtm_aborts::Pending;
@@ -73,7 +78,49 @@ impl UnitState {
         self.core.op_here(deck)
     }
 
+    /// The same, in the deck itself; behind the last card `at_end`, the RETURN that the caller brings along.
+    pub fn card_here<'d>(&self, deck: &'d Deck, at_end: &'d Op) -> &'d Op
+        requires { at_end.now ≡ Return }
+        ensures { result.now ≡ op_here deck.now self.now.core }
+    {
+        self.core.card_here(deck, at_end)
+    }
+
+    /// Whether the unit goes on with its card: no error is open in its innermost bracket, it hasn't begun to end, and no
+    /// abort is pending.
+    #[inline(always)]
+    pub fn is_calm(&self) -> bool
+        ensures { result ≡ is_calm self.now }
+    {
+        !self.core.levels.error_here()
+            && self.core.begun.is_none()
+            && self.pending.first().is_none()
+    }
+
+    /// Whether WAIT and WAITT are no error of mode in it, if it is a task.
+    #[inline(always)]
+    pub fn may_wait(&self) -> bool
+        ensures { result ≡ may_wait self.now.core }
+    {
+        !self.core.frrs.any() && !self.core.levels.in_manager()
+    }
+
+    /// The execution, with 0, of the card at which the unit stands; none where it has no request block.
+    #[inline(always)]
+    pub fn executed(&self) -> Option<What>
+        ensures { result ≡ option_map (λ block. Exec (Block.place block) 0) (newest_block self.now.core.blocks) }
+    {
+        match self.core.blocks.newest_block() {
+            Some(block) => Some(What::Exec {
+                at: block.place,
+                rc: 0,
+            }),
+            None => None,
+        }
+    }
+
     /// The entry that the unit makes next, while it lives and memory end has not begun.
+    #[inline(always)]
     pub fn next(&self, deck: &Deck, around: &Around) -> Option<What>
         ensures { result ≡ next_unit deck.now self.now.core around.now }
     {
