@@ -1,5 +1,8 @@
-//! Tests that cross crates: the layers of control blocks over a deck that was read. The program doesn't stand on it.
+//! Tests that cross crates: the layers of control blocks and the text of a trace over a deck that was read. The program
+//! doesn't stand on it.
 #![tactic(auto)]
 
 #[cfg(test)]
 mod tests;
+#[cfg(test)]
+mod trace_tests;

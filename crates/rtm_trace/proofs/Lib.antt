@@ -1,0 +1,13 @@
+pub mod Front
+pub mod FirstLine
+pub mod Products
+pub mod Cuts
+pub mod Numbers
+pub mod Lookups
+pub mod Parts
+pub mod Entries
+pub mod Confirmed
+pub mod Shapes
+pub mod Places
+pub mod TraceLaws
+pub mod Replies

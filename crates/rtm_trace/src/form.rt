@@ -1,0 +1,15 @@
+/// The forms of entries, by the words that they begin with.
+#[derive(Clone, Copy)]
+pub(crate) enum Form {
+    Exec,
+    Error,
+    Land,
+    Enter,
+    Leave,
+    Arrive,
+    Begin,
+    Release,
+    Done,
+    Purge,
+    MemEnd,
+}

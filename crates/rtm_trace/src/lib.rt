@@ -1,0 +1,18 @@
+//! The text of a recovery trace, format 1, and its reader.
+#![tactic(auto)]
+
+mod entry_line;
+mod fault;
+mod fit;
+mod form;
+mod laws;
+mod names;
+pub mod push;
+mod read;
+mod text;
+mod word;
+
+pub use fault::TraceFault;
+pub use laws::{each_input_is_a_trace_or_has_a_bad_line, lines_are_short, texts_are_one_to_one};
+pub use read::{Trace, read_trace};
+pub use text::{end_word, push_entry, trace_text};

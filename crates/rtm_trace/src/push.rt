@@ -1,0 +1,87 @@
+//! Text at the end of a buffer.
+
+ghost use Rattle.std.specs.Prelude.{◌≡◌, ◌++◌, ◌<◌, ◌+◌, length, OnOk, decimal};
+ghost use Rattle.rtm_codes.specs.Code.{IsInRange, text_of, digit_char};
+ghost use Rattle.rtm_operands.specs.Name.{trimmed};
+ghost use Rattle.rtm_trace.specs.Text.{reason_digits, flag_text};
+
+use itoa::Buffer;
+use rtm_codes::{Code, NoMemory, code_text};
+use rtm_items::Name;
+
+/// Puts the bytes at the end.
+pub fn bytes(out: &mut Vec<u8>, text: &[u8]) -> Result<(), NoMemory>
+    ensures { OnOk result (out.new.items ≡ out.old.items ++ text.now) }
+{
+    Ok(out.extend_from_slice(text)?)
+}
+
+/// Puts the number in decimal digits.
+pub fn number(out: &mut Vec<u8>, n: u64) -> Result<(), NoMemory>
+    ensures { OnOk result (out.new.items ≡ out.old.items ++ decimal n) }
+{
+    let mut buffer = Buffer::new();
+    bytes(out, buffer.format(n).as_bytes())
+}
+
+/// Puts the text of a completion code.
+pub fn code(out: &mut Vec<u8>, code: Code) -> Result<(), NoMemory>
+    requires { IsInRange code }
+    ensures { OnOk result (out.new.items ≡ out.old.items ++ text_of code) }
+{
+    let text = code_text(code);
+    bytes(out, text.as_slice())
+}
+
+/// Puts the text where the flag stands.
+pub fn flag(out: &mut Vec<u8>, flag: bool, text: &[u8]) -> Result<(), NoMemory>
+    ensures { OnOk result (out.new.items ≡ out.old.items ++ flag_text flag text.now) }
+{
+    if flag { bytes(out, text) } else { Ok(()) }
+}
+
+fn hexadecimal(digit: u32) -> u8
+    requires { digit < 16 }
+    ensures { result ≡ digit_char digit }
+{
+    if digit < 10 {
+        48 + digit as u8
+    } else {
+        55 + digit as u8
+    }
+}
+
+/// Puts the eight hexadecimal digits of a reason code.
+#[tactic(auto, unfolding(crate::specs::Text::reason_digits))]
+pub fn reason_digits(out: &mut Vec<u8>, n: u32) -> Result<(), NoMemory>
+    ensures { OnOk result (out.new.items ≡ out.old.items ++ reason_digits n) }
+{
+    let digits = [
+        hexadecimal(n / 268435456 % 16),
+        hexadecimal(n / 16777216 % 16),
+        hexadecimal(n / 1048576 % 16),
+        hexadecimal(n / 65536 % 16),
+        hexadecimal(n / 4096 % 16),
+        hexadecimal(n / 256 % 16),
+        hexadecimal(n / 16 % 16),
+        hexadecimal(n % 16),
+    ];
+    bytes(out, &digits)
+}
+
+// How many bytes of the field stand before its first blank.
+fn len_of(field: &[u8]) -> usize
+    ensures { result ≡ length (trimmed field.now) }
+{
+    field.iter().take_while(|b| **b != b' ').count()
+}
+
+/// Puts a name without its padding.
+#[tactic(auto, using(crate::proofs::Front::take_front))]
+pub fn name(out: &mut Vec<u8>, name: &Name) -> Result<(), NoMemory>
+    ensures { OnOk result (out.new.items ≡ out.old.items ++ trimmed name.now) }
+{
+    let field = &name.0;
+    let (text, _blanks) = field.split_at(len_of(field));
+    bytes(out, text)
+}

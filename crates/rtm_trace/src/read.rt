@@ -1,0 +1,181 @@
+//! Reading a trace.
+
+ghost use Rattle.std.specs.Prelude.{◌≡◌, ◌+◌, ◌≤◌, ◌<◌, [], ◌∷◌, length, take, drop, IfOk, IfErr, ℕ};
+ghost use Rattle.rtm_trace.specs.Answer.{IsFaultOf, IsThatTrace, IsThatLine, Gives};
+ghost use Rattle.rtm_trace.specs.Lines.{IsTraceOf, IsFirstBadLine, text_lines};
+ghost use Rattle.rtm_trace.specs.Reading.{confirmed, entry_on, ended, read_on, read_lines};
+ghost use Rattle.rtm_trace.specs.View.{TraceView};
+ghost use Rattle.rtm_trace.specs.Words.{names_of, first_of, after_of};
+
+use crate::entry_line::line_in;
+use crate::fault::TraceFault;
+use crate::fit::fits;
+use crate::names::Names;
+use crate::text::push_line;
+use crate::word::end_in;
+use rtm_codes::NoMemory;
+use rtm_items::Deck;
+use rtm_model::{End, Entry};
+use std::alloc::Global;
+use std::marker::Model;
+
+/// A trace: the entries of a history, oldest first, and how it ends.
+#[derive(Debug, Drop)]
+pub struct Trace {
+    pub entries: Vec<Entry>,
+    pub end: End,
+}
+
+impl Model for Trace {
+    ghost use Rattle.rtm_trace.specs.View.{TraceView};
+
+    ghost Value = { TraceView };
+
+    ghost view = { λ a. record { entries = a.entries.items; end = a.end } };
+}
+
+// The entry, where it fits and its line is this one.
+fn confirmed(
+    deck: &Deck,
+    index: u64,
+    line: &[u8],
+    entry: Entry,
+    text: &mut Vec<u8>,
+) -> Result<Option<Entry>, NoMemory>
+    ensures { IfOk result (λ found. found ≡ confirmed deck.now index line.now entry) }
+{
+    if !fits(deck, &entry) {
+        return Ok(None);
+    }
+    text.clear();
+    push_line(text, deck, index, &entry)?;
+    Ok(if text.as_slice() == line {
+        Some(entry)
+    } else {
+        None
+    })
+}
+
+// The entry of that index whose line it is.
+fn entry_on(
+    deck: &Deck,
+    names: &Names,
+    index: u64,
+    line: &[u8],
+    text: &mut Vec<u8>,
+) -> Result<Option<Entry>, NoMemory>
+    requires { names.now ≡ names_of deck.now }
+    ensures { IfOk result (λ found. found ≡ entry_on deck.now index line.now) }
+{
+    match line_in(names, deck.unit_count(), line) {
+        None => Ok(None),
+        Some(entry) => confirmed(deck, index, line, entry, text),
+    }
+}
+
+// How many bytes the first line has, with its line feed.
+fn line_len(text: &[u8]) -> usize
+    ensures within { result ≤ length text.now }
+    ensures some { 0 < length text.now → 0 < result }
+    ensures first { take result text.now ≡ first_of text.now }
+    ensures after { drop result text.now ≡ after_of text.now }
+{
+    for (i, byte) in text.iter().enumerate() {
+        if *byte == b'\n' {
+            return i + 1;
+        }
+    }
+    text.len()
+}
+
+// Cuts off the first line, with its line feed.
+#[tactic(auto, using(crate::proofs::FirstLine::lines_cut))]
+fn cut_line(text: &[u8]) -> (&[u8], &[u8])
+    requires { 0 < length text.now }
+    ensures lines { text_lines text.now ≡ result.0.now ∷ text_lines result.1.now }
+    ensures shorter { length result.1.now + 1 ≤ length text.now }
+{
+    text.split_at(line_len(text))
+}
+
+// The trace that ends, or the number of the line behind the end.
+#[tactic(auto, using(crate::proofs::FirstLine::ended_more))]
+fn ended(entries: Vec<Entry>, end: End, rest: &[u8]) -> Result<Trace, TraceFault>
+    requires { length entries.items + 3 ≤ 4294967295 }
+    ensures { Gives result (ended entries.items end (text_lines rest.now)) }
+{
+    if rest.is_empty() {
+        Ok(Trace { entries, end })
+    } else {
+        Err(TraceFault::BadLine {
+            line: entries.len() as u32 + 3,
+        })
+    }
+}
+
+// The line behind the first one and those of that many entries.
+fn bad_line(count: usize) -> TraceFault
+    requires { count + 2 ≤ 4294967295 }
+    ensures { result ≡ TraceFault.BadLine (count + 2) }
+{
+    TraceFault::BadLine {
+        line: count as u32 + 2,
+    }
+}
+
+// Reads the lines behind the first.
+fn read_on(alloc: Global, deck: &Deck, names: &Names, lines: &[u8]) -> Result<Trace, TraceFault>
+    requires names { names.now ≡ names_of deck.now }
+    requires few { length lines.now ≤ 4294967293 }
+    ensures { Gives result (read_on deck.now [] (text_lines lines.now)) }
+{
+    let mut entries = Vec::new(alloc);
+    let mut text = Vec::new(alloc);
+    let mut rest = lines;
+    'lines: while !rest.is_empty() {
+        let (line, behind) = cut_line(rest);
+        if let Some(end) = end_in(line) {
+            return ended(entries, end, behind);
+        }
+        match entry_on(deck, names, entries.len() as u64, line, &mut text)? {
+            None => return Err(bad_line(entries.len())),
+            Some(entry) => entries.push(entry)?,
+        }
+        rest = behind;
+    }
+    Err(bad_line(entries.len()))
+}
+
+fn read_lines(alloc: Global, deck: &Deck, bytes: &[u8]) -> Result<Trace, TraceFault>
+    requires { length bytes.now ≤ 4294967294 }
+    ensures { Gives result (read_lines deck.now (text_lines bytes.now)) }
+{
+    if bytes.is_empty() {
+        return Err(TraceFault::BadLine { line: 1 });
+    }
+    let (first, behind) = cut_line(bytes);
+    if first != b"RTMTRACE 1\n".as_slice() {
+        return Err(TraceFault::BadLine { line: 1 });
+    }
+    let names = Names::of(alloc, deck)?;
+    read_on(alloc, deck, &names, behind)
+}
+
+/// Reads the text of a trace, or names its first bad line (this profile).
+///
+/// Bad is a line that isn't the text of an entry that fits the deck and has the line's own index, the format's line at the
+/// front and an end's at the back; so is a last line without a line feed, a line behind the end, and where there is no end
+/// the line behind the last. The other error is want of memory.
+pub fn read_trace(alloc: Global, deck: &Deck, bytes: &[u8]) -> Result<Trace, TraceFault>
+    requires { length bytes.now ≤ 4294967294 }
+    ensures found { IfOk result (IsTraceOf deck.now bytes.now) }
+    ensures refused { IfErr result (IsFaultOf deck.now bytes.now) }
+
+    // Each trace is read, and the first bad line named, but for want of memory.
+    ensures spelled { (t : TraceView) → IsTraceOf deck.now bytes.now t → IsThatTrace t result }
+    ensures bad { (line : ℕ) → IsFirstBadLine deck.now bytes.now line → IsThatLine line result }
+{
+    // The deck brings along that it is well formed.
+    deck.keeps_its_form();
+    read_lines(alloc, deck, bytes)
+}
