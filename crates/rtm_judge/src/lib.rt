@@ -1,0 +1,11 @@
+//! Judges a history that somebody else made.
+#![tactic(auto)]
+
+mod judging;
+mod laws;
+
+pub use judging::{JudgeFault, judge};
+pub use laws::{answers_exclude_each_other, one_entry_is_the_first_illegal_one};
+
+#[cfg(test)]
+mod tests;
