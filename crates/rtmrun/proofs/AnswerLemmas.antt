@@ -1,5 +1,5 @@
 -- What is to be written of an input that is too long.
-use Rattle.std.proofs.Common.{◌≡◌, ℕ, zero, suc, ◌+◌, ◌-◌, ◌<◌, ◌≤◌, List, [], ◌∷◌, length, take, Option, Some, None, Result, Ok, Err, refl, sym, subst, ◌∙◌, inl, cond, arith}
+use Rattle.std.proofs.Common.{◌≡◌, ℕ, zero, suc, ◌+◌, ◌-◌, ◌<◌, ◌≤◌, List, [], ◌∷◌, length, take, Option, Some, None, Result, Ok, Err, refl, sym, subst, ◌∙◌, cond, arith}
 use Rattle.std.specs.Prelude.{IfSome, IfOk, count_by, ◌==◌}
 use Rattle.std.proofs.lemmas.List.Sums.{sum_by-cons}
 use Rattle.rtm_io.specs.Input.{IsInFault, IsTooLong, line_at}
@@ -14,7 +14,8 @@ use Rattle.rtmrun.specs.declared.request.Request.{Request}
 use Rattle.rtmrun.specs.declared.request.Request.TheVariants as requests
 use Rattle.rtmrun.specs.declared.outcome.Status.{Status}
 use Rattle.rtmrun.specs.declared.outcome.Status.TheVariants as status
-use Rattle.rtmrun.specs.Answer.{IsAnswer, IsAnswerOf, refusal_text}
+use Rattle.rtmrun.specs.Answer.{IsAnswer, IsAnswerOf, Reads, refusal_text}
+use Rattle.rtmrun.proofs.Faulted.{is_whole}
 
 -- the card of a byte is one more than the line feeds before it
 number_is : (bytes : List ℕ) (i : ℕ) → number_at bytes i ≡ line_at bytes i
@@ -65,31 +66,34 @@ too_long bytes line long e = record {
 
 -- some bytes that the source may have had left, with that first fault
 some_bytes : (left new : Option (List ℕ)) (line : ℕ) → IsTooLong max_bytes left new line
-    → (bytes : List ℕ) × IfSome left (λ told. bytes ≡ told) × IsFirstFault bytes line whys.TooLong
+    → (bytes : List ℕ) × IfSome left (λ told. bytes ≡ told) × (max_bytes < length bytes) × IsFirstFault bytes line whys.TooLong
 some_bytes None new line h =
     let some = sampled max_bytes line h.in_range.0 h.in_range.1 in
-    (some.0, tt, too_long some.0 line some.1 some.2)
-some_bytes (Some told) new line h = (told, refl, too_long told line h.longer h.in_line)
+    (some.0, tt, some.1, too_long some.0 line some.1 some.2)
+some_bytes (Some told) new line h = (told, refl, h.longer, too_long told line h.longer h.in_line)
 
 -- the refusal of an input with that first fault is what is to be written
-is_refusal : (request : Request) (bytes text : List ℕ) (card : ℕ) → IsFirstFault bytes card whys.TooLong → text ≡ refusal_text card whys.TooLong
+is_refusal : (request : Request) (bytes text : List ℕ) (card : ℕ) → Reads request → max_bytes < length bytes → IsFirstFault bytes card whys.TooLong → text ≡ refusal_text card whys.TooLong
     → IsAnswer request bytes text status.Deck
-is_refusal requests.Scan bytes text card f e = record { card = card; why = whys.TooLong; fault = f; written = e }
-is_refusal requests.Seq bytes text card f e = inl (record { card = card; why = whys.TooLong; fault = f; written = e })
+is_refusal requests.Scan bytes text card reads long f e = record { card = card; why = whys.TooLong; fault = f; written = e }
+is_refusal requests.Seq bytes text card reads long f e = record { card = card; why = whys.TooLong; fault = f; written = e }
+is_refusal requests.Verify bytes text card reads long f e =
+    record { card = card; why = whys.TooLong; fault = subst (λ (part : List ℕ). IsFirstFault part card whys.TooLong) (is_whole bytes long) f; written = e }
+is_refusal (requests.Load tasks) bytes text card reads long f e = absurd reads
 
 -- of more bytes than are read
-of_too_long : (request : Request) (left new : Option (List ℕ)) (line : ℕ) → IsTooLong max_bytes left new line
+of_too_long : (request : Request) (left new : Option (List ℕ)) (line : ℕ) → Reads request → IsTooLong max_bytes left new line
     → (r : Result Answer Status) → IfOk r (λ a. a.text.items ≡ refusal_text line whys.TooLong) → IfOk r (λ a. a.status ≡ status.Deck)
     → IfOk r (λ a. IsAnswerOf request left a.text.items a.status)
-of_too_long request left new line h (Ok a) text is_deck =
+of_too_long request left new line reads h (Ok a) text is_deck =
     let some = some_bytes left new line h in
-    (some.0, some.1, subst (λ (s : Status). IsAnswer request some.0 a.text.items s) (sym is_deck) (is_refusal request some.0 a.text.items line some.2 text))
-of_too_long request left new line h (Err e) text is_deck = tt
+    (some.0, some.1, subst (λ (s : Status). IsAnswer request some.0 a.text.items s) (sym is_deck) (is_refusal request some.0 a.text.items line reads some.2 some.3 text))
+of_too_long request left new line reads h (Err e) text is_deck = tt
 
 -- the same of a fault that is that one
-pub of_fault : (request : Request) (left new : Option (List ℕ)) (before now line : ℕ) (fault : InFault) → fault ≡ TooLong line
+pub of_fault : (request : Request) (left new : Option (List ℕ)) (before now line : ℕ) (fault : InFault) → Reads request → fault ≡ TooLong line
     → IsInFault max_bytes left new before now fault
     → (r : Result Answer Status) → IfOk r (λ a. a.text.items ≡ refusal_text line whys.TooLong) → IfOk r (λ a. a.status ≡ status.Deck)
     → IfOk r (λ a. IsAnswerOf request left a.text.items a.status)
-of_fault request left new before now line fault e h r text is_deck =
-    of_too_long request left new line (subst (λ (f : InFault). IsInFault max_bytes left new before now f) e h) r text is_deck
+of_fault request left new before now line fault reads e h r text is_deck =
+    of_too_long request left new line reads (subst (λ (f : InFault). IsInFault max_bytes left new before now f) e h) r text is_deck

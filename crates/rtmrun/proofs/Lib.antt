@@ -1,3 +1,6 @@
-pub mod Front
+pub mod Notes
+pub mod Words
+pub mod Arrives
+pub mod Faulted
 pub mod TurnLemmas
 pub mod AnswerLemmas

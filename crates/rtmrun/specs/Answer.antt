@@ -1,5 +1,5 @@
 -- What the program answers, by its words, and by the bytes that it reads and writes (this profile).
-use Rattle.std.specs.Prelude.{◌≡◌, ◌⊎◌, ℕ, List, [], ◌∷◌, ◌++◌, Option, Some, IfSome, IsTrue, not, codes, decimal}
+use Rattle.std.specs.Prelude.{◌≡◌, ℕ, List, [], ◌∷◌, ◌++◌, Option, IfSome, codes, decimal, ◌≤◌}
 use Rattle.rtm_io.specs.Faults.{HasRisen}
 use Rattle.rtm_io.specs.Stream.{Appends, AppendsPrefix}
 use Rattle.rtm_items.specs.View.{DeckView}
@@ -8,24 +8,42 @@ use Rattle.rtm_items.specs.Spelling.{DeckText}
 use Rattle.rtm_items.specs.Faults.{IsFirstFault}
 use Rattle.rtm_items.specs.declared.why.Why.{Why}
 use Rattle.rtm_items.specs.declared.why.Why.TheVariants as whys
-use Rattle.rtm_model.specs.Runs.{runs}
-use Rattle.rtm_model.specs.declared.entry.End.{End}
-use Rattle.rtm_model.specs.declared.entry.End.TheVariants.{Ended, Stalled, Limit}
-use Rattle.rtm_model.specs.History.{end_of, seq}
 use Rattle.rtmrun.specs.declared.request.Request.{Request}
 use Rattle.rtmrun.specs.declared.request.Request.TheVariants as requests
 use Rattle.rtmrun.specs.declared.outcome.Status.{Status}
 use Rattle.rtmrun.specs.declared.outcome.Status.TheVariants as status
-use Rattle.rtmrun.specs.Text.{trace_text}
+use Rattle.rtmrun.specs.Run.{IsLoad, IsRun}
+use Rattle.rtmrun.specs.Verified.{IsVerified, faulted_part}
 
 -- the words of each request
 abbrev pub words_of : Request → List (List ℕ)
 words_of requests.Scan = codes "scan" ∷ []
 words_of requests.Seq = codes "seq" ∷ []
+words_of requests.Verify = codes "verify" ∷ []
+words_of (requests.Load tasks) = codes "load" ∷ decimal tasks ∷ []
+
+-- a load has 1 to 60 tasks
+abbrev pub IsRequest : Request → Type 0
+IsRequest (requests.Load tasks) = (1 ≤ tasks) × (tasks ≤ 60)
+IsRequest _ = Unit {0}
+
+-- what it does is done with the bytes of the source
+abbrev pub Reads : Request → Type 0
+Reads (requests.Load tasks) = ⊥
+Reads _ = Unit {0}
 
 -- The words are those of no request.
 abbrev pub AreUnknown : List (List ℕ) → Type 0
-AreUnknown words = (request : Request) → words ≡ words_of request → ⊥
+AreUnknown words = (request : Request) → IsRequest request → words ≡ words_of request → ⊥
+
+-- the text is no number from 1 to 60 without leading zeros
+abbrev pub IsNoLoad : List ℕ → Type 0
+IsNoLoad text = (tasks : ℕ) → 1 ≤ tasks → tasks ≤ 60 → text ≡ decimal tasks → ⊥
+
+-- it is the load of that number
+abbrev pub IsLoadOf : List ℕ → Request → Type 0
+IsLoadOf text (requests.Load tasks) = (1 ≤ tasks) × (tasks ≤ 60) × (text ≡ decimal tasks)
+IsLoadOf text _ = ⊥
 
 -- Words can't be had: memory is wanting, or one of them is no text.
 abbrev pub HasNoWords : Status → Type 0
@@ -47,12 +65,6 @@ exit_status status.Read = 16
 exit_status status.Write = 17
 exit_status status.Words = 20
 
--- the status of a history, by its end
-abbrev pub status_of : End → Status
-status_of Ended = status.Fine
-status_of Stalled = status.Stalled
-status_of Limit = status.AtLimit
-
 -- the name of a fault
 abbrev pub why_text : Why → List ℕ
 why_text whys.TooLong = codes "TooLong"
@@ -72,21 +84,16 @@ why_text whys.OverLimit = codes "OverLimit"
 abbrev pub refusal_text : ℕ → Why → List ℕ
 refusal_text card why = codes "DECK " ++ decimal card ++ codes " " ++ why_text why ++ codes "\n"
 
--- The text is that of the one history that a single thread makes of the deck, to its end, and the status tells that end.
-abbrev pub IsRun : DeckView → List ℕ → Status → Type 0
-IsRun d text s = (end : End) × (end_of d (seq d) ≡ Some end) × (text ≡ trace_text d (seq d) end) × (s ≡ status_of end)
-
 -- The bytes spell a deck, and the text is its canonical text.
 pub record IsScanOf (bytes text : List ℕ) : Type 0 where
   pub deck : DeckView
   pub spelled : DeckText bytes deck
   pub written : text ≡ canon deck
 
--- The bytes spell a deck that is run so far, and that is its run.
+-- The bytes spell a deck, and that is its run.
 pub record IsRunOf (bytes text : List ℕ) (s : Status) : Type 0 where
   pub deck : DeckView
   pub spelled : DeckText bytes deck
-  pub runs : IsTrue (runs deck)
   pub run : IsRun deck text s
 
 -- The text names the first fault of the bytes.
@@ -96,26 +103,26 @@ pub record IsRefusalOf (bytes text : List ℕ) : Type 0 where
   pub fault : IsFirstFault bytes card why
   pub written : text ≡ refusal_text card why
 
--- The bytes spell a deck that isn't run so far, and the text says so.
-pub record IsUnrun (bytes text : List ℕ) : Type 0 where
-  pub deck : DeckView
-  pub spelled : DeckText bytes deck
-  pub unrun : IsTrue (not (runs deck))
-  pub written : text ≡ refusal_text 0 whys.WrongPlace
-
 -- what is to be written of the bytes that were read, and the status
 abbrev pub IsAnswer : Request → List ℕ → List ℕ → Status → Type 0
 IsAnswer requests.Scan bytes text status.Deck = IsRefusalOf bytes text
 IsAnswer requests.Scan bytes text status.Fine = IsScanOf bytes text
-IsAnswer requests.Seq bytes text status.Deck = IsRefusalOf bytes text ⊎ IsUnrun bytes text
+IsAnswer requests.Seq bytes text status.Deck = IsRefusalOf bytes text
 IsAnswer requests.Seq bytes text status.Fine = IsRunOf bytes text status.Fine
 IsAnswer requests.Seq bytes text status.Stalled = IsRunOf bytes text status.Stalled
 IsAnswer requests.Seq bytes text status.AtLimit = IsRunOf bytes text status.AtLimit
+IsAnswer requests.Verify bytes text status.Deck = IsRefusalOf (faulted_part bytes) text
+IsAnswer requests.Verify bytes text s = IsVerified bytes text s
 IsAnswer request bytes text _ = ⊥
 
 -- the same of a source that told its bytes; of one that tells none, of some bytes
 abbrev pub IsAnswerOf : Request → Option (List ℕ) → List ℕ → Status → Type 0
 IsAnswerOf request left text s = (bytes : List ℕ) × IfSome left (λ told. bytes ≡ told) × IsAnswer request bytes text s
+
+-- what is to be written: a load is made of its number alone, all else of the bytes that the source had left
+abbrev pub IsDue : Request → Option (List ℕ) → List ℕ → Status → Type 0
+IsDue (requests.Load tasks) left text s = IsLoad tasks text s
+IsDue request left text s = IsAnswerOf request left text s
 
 -- why nothing is to be written; the numbers are the source's faults before and now
 abbrev pub IsUnread : ℕ → ℕ → Status → Type 0
@@ -136,7 +143,7 @@ pub record Call : Type 0 where
 
 -- exactly this text was written
 abbrev pub HasWritten : Request → Call → Status → Type 0
-HasWritten request call s = (text : List ℕ) × IsAnswerOf request call.left text s × Appends call.written_before call.written_now text
+HasWritten request call s = (text : List ℕ) × IsDue request call.left text s × Appends call.written_before call.written_now text
 
 -- what a status says of a call with that request
 abbrev pub Says : Request → Call → Status → Type 0
@@ -144,9 +151,12 @@ Says request call status.Memory = call.written_now ≡ call.written_before
 Says request call status.Read = HasRisen call.source_before call.source_now × (call.written_now ≡ call.written_before)
 Says request call status.Write =
     HasRisen call.sink_before call.sink_now
-    × ((text : List ℕ) × (s : Status) × IsAnswerOf request call.left text s × AppendsPrefix call.written_before call.written_now text)
+    × ((text : List ℕ) × (s : Status) × IsDue request call.left text s × AppendsPrefix call.written_before call.written_now text)
 Says request call status.Deck = HasWritten request call status.Deck
+Says request call status.Line = HasWritten request call status.Line
+Says request call status.NotLegal = HasWritten request call status.NotLegal
+Says request call status.WrongEnd = HasWritten request call status.WrongEnd
 Says request call status.Fine = HasWritten request call status.Fine
 Says request call status.Stalled = HasWritten request call status.Stalled
 Says request call status.AtLimit = HasWritten request call status.AtLimit
-Says request call _ = ⊥
+Says request call status.Words = ⊥

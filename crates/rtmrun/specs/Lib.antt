@@ -1,3 +1,4 @@
-pub mod Text
-pub mod TurnWords
 pub mod Answer
+pub mod Commands
+pub mod Run
+pub mod Verified

@@ -1,20 +1,16 @@
 //! What is to be written for the bytes of a deck.
 
-ghost use Rattle.std.specs.Prelude.{◌≡◌, ◌++◌, ◌^◌, ◌≤◌, ◌<◌, IfOk, OnOk, IsTrue};
-ghost use Rattle.rtm_items.specs.Spelling.{DeckText};
+ghost use Rattle.std.specs.Prelude.{◌≡◌, ◌++◌, ◌^◌, ◌≤◌, ◌<◌, IfOk, OnOk};
 ghost use Rattle.rtm_items.specs.Canon.{canon};
-ghost use Rattle.rtm_model.specs.Runs.{runs};
-ghost use Rattle.rtmrun.specs.Answer.{IsRun, IsAnswer, refusal_text, why_text};
+ghost use Rattle.rtmrun.specs.Answer.{IsAnswer, refusal_text, why_text};
+ghost use Rattle.rtmrun.specs.declared.request.Request.{Request};
 
 use crate::outcome::Status;
-use crate::push;
-use crate::request::Request;
-use crate::text::trace_text;
-use crate::turns::seq_run;
+use crate::run::run_answer;
 use rtm_codes::NoMemory;
 use rtm_deck::{DeckFault, deck_text, read_deck};
 use rtm_items::{Deck, Why};
-use rtm_system::{System, is_run};
+use rtm_trace::push;
 use std::alloc::Global;
 
 /// A text that is to be written, and the status once it is.
@@ -77,42 +73,23 @@ fn scan_answer(alloc: Global, deck: &Deck) -> Result<Answer, NoMemory>
     })
 }
 
-/// What is written of a deck that is run, on one thread, to its end.
-fn run_answer(alloc: Global, deck: Deck) -> Result<Answer, NoMemory>
-    requires { IsTrue (runs deck) }
-    ensures { IfOk result (λ answer. IsRun deck answer.text.items answer.status) }
+/// What is to be written for the bytes of a deck under the word scan.
+pub fn scan_bytes(alloc: Global, bytes: &[u8]) -> Result<Answer, NoMemory>
+    ensures { IfOk result (λ answer. IsAnswer Request.Scan bytes.now answer.text.items answer.status) }
 {
-    let mut system = System::new(alloc, deck)?;
-    seq_run(&mut system);
-    let end = system.end().unwrap();
-    let text = trace_text(alloc, system.deck(), system.trace(), end)?;
-    Ok(Answer {
-        text,
-        status: Status::of_end(end),
-    })
-}
-
-/// What is written for the bytes of a deck under the word seq, where they spell this deck.
-fn seq_answer(alloc: Global, bytes: &[u8], deck: Deck) -> Result<Answer, NoMemory>
-    requires { DeckText bytes.now deck }
-    ensures { IfOk result (λ answer. IsAnswer Request.Seq bytes.now answer.text.items answer.status) }
-{
-    if is_run(&deck) {
-        run_answer(alloc, deck)
-    } else {
-        refusal(alloc, 0, Why::WrongPlace)
+    match read_deck(alloc, bytes) {
+        Ok(deck) => scan_answer(alloc, &deck),
+        Err(DeckFault::Memory) => Err(NoMemory),
+        Err(DeckFault::Refused { card, why }) => refusal(alloc, card, why),
     }
 }
 
-/// What is to be written for the bytes of a deck.
-pub fn answer_to(alloc: Global, request: Request, bytes: &[u8]) -> Result<Answer, NoMemory>
-    ensures { IfOk result (λ answer. IsAnswer request bytes.now answer.text.items answer.status) }
+/// What is to be written for the bytes of a deck under the word seq.
+pub fn seq_bytes(alloc: Global, bytes: &[u8]) -> Result<Answer, NoMemory>
+    ensures { IfOk result (λ answer. IsAnswer Request.Seq bytes.now answer.text.items answer.status) }
 {
     match read_deck(alloc, bytes) {
-        Ok(deck) => match request {
-            Request::Scan => scan_answer(alloc, &deck),
-            Request::Seq => seq_answer(alloc, bytes, deck),
-        },
+        Ok(deck) => run_answer(alloc, deck),
         Err(DeckFault::Memory) => Err(NoMemory),
         Err(DeckFault::Refused { card, why }) => refusal(alloc, card, why),
     }

@@ -1,16 +1,17 @@
-//! Runs a deck of recovery termination and prints its trace.
+//! Runs a deck of recovery termination and prints its trace, or judges a trace.
 #![tactic(auto)]
 
 ghost use Rattle.std.specs.Prelude.{IfErr};
 ghost use Rattle.rtmrun.specs.Answer.{HasNoWords};
 
 mod answer;
+mod operator;
 mod outcome;
-mod push;
 mod request;
-mod text;
+mod run;
 mod top;
 mod turns;
+mod verify;
 
 use outcome::{RtmWord, Status};
 use rtm_io::{StdSink, StdSource};
@@ -21,9 +22,13 @@ use std::rt::Env;
 use top::plain_words;
 
 #[cfg(test)]
+mod run_tests;
+#[cfg(test)]
 mod scan_tests;
 #[cfg(test)]
 mod tests;
+#[cfg(test)]
+mod verify_tests;
 
 // The words behind the program's name. Which words the system gives no contract can say.
 fn words_of<R: Env + AllocGlobal>(rt: &R) -> Result<Vec<RtmWord>, Status>

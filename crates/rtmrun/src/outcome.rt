@@ -28,11 +28,11 @@ pub enum Status {
     AtLimit,
     /// The deck was refused, and the refusal was written.
     Deck,
-    /// The trace has a line that isn't as a trace's line is written. Of no word so far.
+    /// The trace has a line that isn't as a trace's line is written.
     Line,
-    /// The trace isn't a legal history. Of no word so far.
+    /// The trace isn't a legal history.
     NotLegal,
-    /// The trace has another end. Of no word so far.
+    /// The trace has another end.
     WrongEnd,
     /// Memory was refused. Nothing was written.
     Memory,
@@ -52,7 +52,8 @@ pub struct Outcome {
 
 impl Status {
     ghost use Rattle.std.specs.Prelude.{◌≡◌};
-    ghost use Rattle.rtmrun.specs.Answer.{exit_status, status_of};
+    ghost use Rattle.rtmrun.specs.Answer.{exit_status};
+    ghost use Rattle.rtmrun.specs.Run.{status_of};
 
     /// The status that the program ends with.
     pub fn exit_status(self) -> u8

@@ -5,7 +5,7 @@ use std::alloc::{AllocError, Global};
 use std::process::Abort;
 use std::test::Fail;
 
-fn words(alloc: Global, texts: &[&str]) -> Result<Vec<RtmWord>, AllocError> {
+pub fn words(alloc: Global, texts: &[&str]) -> Result<Vec<RtmWord>, AllocError> {
     let mut all = Vec::new(alloc);
     for text in texts {
         all.push(RtmWord {
@@ -40,12 +40,10 @@ pub fn is_answered(
     Ok(())
 }
 
-const ROW_1: &str = "MAIN PROG\n NOP\n RETURN\n PEND\nJOB TASK PGM=MAIN\n END\n";
+pub const ROW_1: &str = "MAIN PROG\n NOP\n RETURN\n PEND\nJOB TASK PGM=MAIN\n END\n";
 
-const TRACE_1: &str =
+pub const TRACE_1: &str =
     "RTMTRACE 1\n0 JOB EXEC MAIN.1 RC=0\n1 JOB BEGIN S000\n2 JOB DONE S000\n3 * MEMEND\nEND ENDED\n";
-
-const UNRUN: &str = "DECK 0 WrongPlace\n";
 
 const ROW_4: &str = "MAIN PROG\n ABEND U4095\n RETURN\n PEND\nJOB TASK PGM=MAIN\n END\n";
 
@@ -66,6 +64,9 @@ const LOOP_TRACE: &str =
 
 const GET_CARD: &str = "MAIN PROG\n GET ENQ,1\n RETURN\n PEND\nJOB TASK PGM=MAIN\n END\n";
 
+const GET_TRACE: &str =
+    "RTMTRACE 1\n0 JOB EXEC MAIN.1 RC=0\n1 JOB BEGIN S000\n2 JOB RELEASE ENQ 1 JOB\n3 JOB DONE S000\n4 * MEMEND\nEND ENDED\n";
+
 const LOOSE: &str =
     "* A TRY\nMAIN  PROG\n ABEND   U0007,DUMP=NO,REASON=0004 TRY\n\n RETURN OPERANDS\n PEND\nJOB TASK PGM=MAIN\n OPER\n END";
 
@@ -80,7 +81,7 @@ fn decks_are_run(rt: HostRuntime) -> Result<(), Fail> {
         (ROW_4, Status::Fine, TRACE_4),
         (ROW_5, Status::Fine, TRACE_5),
         (LOOP, Status::AtLimit, LOOP_TRACE),
-        (GET_CARD, Status::Deck, UNRUN),
+        (GET_CARD, Status::Fine, GET_TRACE),
         ("", Status::Deck, "DECK 1 NoJobStep\n"),
     ];
     for (deck, status, text) in cases {
@@ -132,7 +133,18 @@ fn a_sink_that_fails_leaves_a_prefix_written(rt: HostRuntime) -> Result<(), Fail
 #[test]
 fn other_words_touch_nothing(rt: HostRuntime) -> Result<(), Fail> {
     let alloc = rt.alloc();
-    let lists: [&[&str]; 4] = [&[], &["scan", "scan"], &["run"], &["SEQ"]];
+    let lists: [&[&str]; 10] = [
+        &[],
+        &["scan", "scan"],
+        &["run"],
+        &["SEQ"],
+        &["verify", "verify"],
+        &["load"],
+        &["load", "0"],
+        &["load", "61"],
+        &["load", "07"],
+        &["load", "1", "1"],
+    ];
     for list in lists {
         let mut src = source(alloc, ROW_1, &[0])?;
         let mut out = MemSink::new(alloc, 100, Vec::from_slice(alloc, &[0])?)?;

@@ -1,14 +1,17 @@
 //! The top call: all that the program does, over a source and a sink.
 
-ghost use Rattle.std.specs.Prelude.{◌≡◌, ◌↔◌, ◌≤◌, ◌^◌, ◌-◌, IfOk, IfErr, OnOk, OnErr};
+ghost use Rattle.std.specs.Prelude.{◌≡◌, ◌↔◌, ◌≤◌, ◌^◌, ◌-◌, ℕ, Ok, IfOk, IfErr, OnOk, OnErr, length};
 ghost use Rattle.rtm_io.specs.Faults.{HasRisen, HasCause};
 ghost use Rattle.rtm_io.specs.Stream.{Appends, AppendsPrefix};
 ghost use Rattle.rtmrun.specs.declared.request.Request.{Request};
-ghost use Rattle.rtmrun.specs.Answer.{AreUnknown, words_of, IsAnswer, IsAnswerOf, IsUnread, Says, refusal_text};
+ghost use Rattle.rtmrun.specs.Answer.{AreUnknown, IsAnswer, IsAnswerOf, IsDue, IsRequest, IsUnread, Reads, Says, refusal_text, words_of};
+ghost use Rattle.rtmrun.specs.Run.{IsLoad};
 
-use crate::answer::{Answer, answer_to, refusal};
+use crate::answer::{Answer, refusal, scan_bytes, seq_bytes};
 use crate::outcome::{Outcome, RtmWord, Status};
 use crate::request::{Request, request_of};
+use crate::run::load_answer;
+use crate::verify::verify_answer;
 use rtm_codes::NoMemory;
 use rtm_io::{InFault, Sink, Source, read_all, write_all};
 use rtm_items::Why;
@@ -19,10 +22,26 @@ const INPUT_LIMIT: usize = 16_777_216;
 
 // What is to be written of the bytes that were read. Want of memory is the status Memory.
 fn answer_of(alloc: Global, request: Request, bytes: &[u8]) -> Result<Answer, Status>
+    requires reads { Reads request }
+    requires few { length bytes.now ≤ 16777216 }
     ensures ok { IfOk result (λ answer. IsAnswer request bytes.now answer.text.items answer.status) }
     ensures err { IfErr result (λ status. status ≡ Status.Memory) }
 {
-    match answer_to(alloc, request, bytes) {
+    let answer = match request {
+        Request::Scan => scan_bytes(alloc, bytes),
+        Request::Seq => seq_bytes(alloc, bytes),
+        Request::Verify => verify_answer(alloc, bytes),
+        Request::Load(_) => unreachable!("a load reads nothing"),
+    };
+    or_memory(answer)
+}
+
+// Want of memory is the status Memory.
+fn or_memory(answer: Result<Answer, NoMemory>) -> Result<Answer, Status>
+    ensures ok { IfOk result (λ made. answer ≡ Ok made) }
+    ensures err { IfErr result (λ status. status ≡ Status.Memory) }
+{
+    match answer {
         Ok(answer) => Ok(answer),
         Err(NoMemory) => Err(Status::Memory),
     }
@@ -40,8 +59,9 @@ fn refused(alloc: Global, card: u32) -> Result<Answer, Status>
     }
 }
 
-// Reads a deck, and makes what is to be written of it.
+// Reads all bytes, and makes what is to be written of them.
 fn read_answer<S: Source>(alloc: Global, request: Request, src: &mut S) -> Result<Answer, Status>
+    requires { Reads request }
     ensures ok { IfOk result (λ answer. IsAnswerOf request (S.left src.old) answer.text.items answer.status) }
     ensures err { IfErr result (IsUnread (S.faults src.old) (S.faults src.new)) }
 {
@@ -66,11 +86,36 @@ fn write_answer<K: Sink>(out: &mut K, answer: &Answer) -> Result<Status, ()>
     }
 }
 
+// Makes what is to be written of a load.
+fn load_made(alloc: Global, tasks: u8) -> Result<Answer, Status>
+    requires { IsRequest (Request.Load tasks) }
+    ensures ok { IfOk result (λ answer. IsLoad tasks answer.text.items answer.status) }
+    ensures err { IfErr result (λ status. status ≡ Status.Memory) }
+{
+    or_memory(load_answer(alloc, tasks))
+}
+
+// Makes what is to be written. A load leaves the source alone.
+fn make_answer<S: Source>(alloc: Global, request: Request, src: &mut S) -> Result<Answer, Status>
+    requires { IsRequest request }
+    ensures ok { IfOk result (λ answer. IsDue request (S.left src.old) answer.text.items answer.status) }
+    ensures err { IfErr result (IsUnread (S.faults src.old) (S.faults src.new)) }
+    ensures untouched { (tasks : ℕ) → request ≡ Request.Load tasks → src.new ≡ src.old }
+{
+    match request {
+        Request::Load(tasks) => load_made(alloc, tasks),
+        _ => read_answer(alloc, request, src),
+    }
+}
+
 /// Does what the words say, and nothing else: `scan` reads a deck from the source and writes its canonical text, `seq`
-/// runs it on one thread and writes its trace.
+/// runs it on one thread and writes its trace; `verify` reads a deck and the trace that follows it, and judges the trace;
+/// `load n` runs a deck that is made of n tasks, 1 to 60, and writes how many entries and releases its run has. It reads
+/// nothing.
 ///
-/// An input that spells no deck is refused with its first fault; one of more than 16,777,216 bytes is too long. So far
-/// `seq` refuses a deck of several units, of commands, or of cards that aren't run yet as `DECK 0 WrongPlace`.
+/// An input that spells no deck is refused with its first fault; one of more than 16,777,216 bytes is too long. Of a
+/// trace the first bad line is named, else the first entry that may not stand where it does with the one that was wanted,
+/// else the end where it is another than stated.
 pub fn plain_words<S: Source, K: Sink>(
     alloc: Global,
     words: &[RtmWord],
@@ -82,7 +127,10 @@ pub fn plain_words<S: Source, K: Sink>(
     ensures source { result.status ≡ Status.Words → src.new ≡ src.old }
     ensures sink { result.status ≡ Status.Words → out.new ≡ out.old }
 
-    ensures answer { (request : Request) → words.now ≡ words_of request → Says request (record {
+    // A load reads nothing.
+    ensures load { (tasks : ℕ) → IsRequest (Request.Load tasks) → words.now ≡ words_of (Request.Load tasks) → src.new ≡ src.old }
+
+    ensures answer { (request : Request) → IsRequest request → words.now ≡ words_of request → Says request (record {
       left = S.left src.old;
       source_before = S.faults src.old;
       source_now = S.faults src.new;
@@ -104,7 +152,9 @@ pub fn plain_words<S: Source, K: Sink>(
 
 // Does what is asked for, and answers the status.
 fn done<S: Source, K: Sink>(alloc: Global, request: Request, src: &mut S, out: &mut K) -> Status
+    requires { IsRequest request }
     ensures known { result ≡ Status.Words → ⊥ }
+    ensures untouched { (tasks : ℕ) → request ≡ Request.Load tasks → src.new ≡ src.old }
     ensures answer { Says request (record {
       left = S.left src.old;
       source_before = S.faults src.old;
@@ -115,7 +165,7 @@ fn done<S: Source, K: Sink>(alloc: Global, request: Request, src: &mut S, out: &
       written_now = K.written out.new;
     }) result }
 {
-    match read_answer(alloc, request, src) {
+    match make_answer(alloc, request, src) {
         Err(status) => status,
         Ok(answer) => match write_answer(out, &answer) {
             Ok(status) => status,

@@ -1,23 +1,17 @@
 //! The order of turns on one thread.
 
-ghost use Rattle.std.specs.Prelude.{◌≡◌, ◌≤◌, ◌+◌, ◌==◌, if◌then◌else◌, ◌++◌, ◌∷◌, [], length, Some, None, IsSome, is_some};
-ghost use Rattle.rtm_model.specs.History.{world, next, end_of, seq};
-ghost use Rattle.rtm_system.specs.Steps.{made_by, entries_of};
-ghost use Rattle.rtmrun.specs.TurnWords.{MakesTurn};
+ghost use Rattle.std.specs.Prelude.{◌≡◌, ◌<◌, ◌≤◌, ◌+◌, ◌++◌, ◌==◌, ◌∷◌, [], ℕ, IsSome, Some, if◌then◌else◌, length, true};
+ghost use Rattle.rtm_board.specs.Commands.{has};
+ghost use Rattle.rtm_model.specs.Arrivals.{arrival};
+ghost use Rattle.rtm_model.specs.Births.{world};
+ghost use Rattle.rtm_model.specs.Legal.{end_of};
+ghost use Rattle.rtm_model.specs.Turns.{seq, turn_after};
+ghost use Rattle.rtm_system.specs.Turned.{IsNext};
+ghost use Rattle.rtmrun.specs.Commands.{AreAll};
 
-use rtm_system::{Stepped, System};
-
-// Makes the unit's next entry, and says whether it had one.
-fn is_made(system: &mut System, unit: u16) -> bool
-    requires unit { unit ≤ length system.old.deck.units }
-    requires goes_on { end_of system.old.deck system.old.trace ≡ None }
-    ensures made { result ≡ is_some (next system.old.deck (world system.old.deck system.old.trace) unit) }
-    ensures trace { system.new.trace ≡ system.old.trace
-        ++ entries_of (made_by unit (next system.old.deck (world system.old.deck system.old.trace) unit)) }
-    ensures deck { system.new.deck ≡ system.old.deck }
-{
-    matches!(system.step(unit), Stepped::Made(_))
-}
+use rtm_board::Notes;
+use rtm_model::{Entry, What};
+use rtm_system::System;
 
 // The unit after `unit`, round past the master, whose number is `count`.
 fn unit_after(count: u16, unit: u16) -> u16
@@ -27,36 +21,66 @@ fn unit_after(count: u16, unit: u16) -> u16
     if unit == count { 0 } else { unit + 1 }
 }
 
-// Makes the entry of the first unit that has one, from `first` on and round past the master, whose number is the number
-// of units. Answers whose turn comes next.
-fn turn(system: &mut System, first: u16) -> u16
-    requires unit { first ≤ length system.old.deck.units }
-    requires goes_on { end_of system.old.deck system.old.trace ≡ None }
-    ensures made { MakesTurn system.old system.new first result }
-    ensures unit { result ≤ length system.old.deck.units }
-    ensures deck { system.new.deck ≡ system.old.deck }
+// Whose turn comes after the entry; an arrival leaves it where it is.
+fn turn_after(system: &System, turn: u16, entry: &Entry) -> u16
+    requires turn { turn ≤ length system.now.deck.units }
+    requires unit { entry.now.unit ≤ length system.now.deck.units }
+    ensures next { result ≡ turn_after system.now.deck turn entry.now.unit entry.now.what }
+    ensures in_deck { result ≤ length system.now.deck.units }
 {
-    let count = system.deck().unit_count();
-    let mut unit = first;
-    'units: for _ in 0..u32::from(count) + 1 {
-        let after = unit_after(count, unit);
-        if is_made(system, unit) {
-            return after;
-        }
-        unit = after;
+    match entry.what {
+        What::Arrive { .. } => turn,
+        _ => unit_after(system.deck().unit_count(), entry.unit),
     }
-    unit
 }
 
-/// Runs a system from its start to its end, in turns.
-pub fn seq_run(system: &mut System)
-    requires { system.old.trace ≡ [] }
+// Shows the system the note of the command whose arrival is to stand next.
+#[tactic(auto, using(crate::proofs::Notes::kept))]
+fn show(system: &mut System, notes: &mut Notes, cmd: u8, entry: Entry)
+    requires next { IsNext system.old.deck system.old.trace entry }
+    requires arrival { arrival system.old.deck (world system.old.deck system.old.trace) (length system.old.trace) cmd ≡ Some entry }
+    requires there { has cmd notes.old ≡ true }
+    requires below { cmd < 64 }
+    ensures trace { system.new.trace ≡ system.old.trace ++ entry ∷ [] }
+    ensures deck { system.new.deck ≡ system.old.deck }
+    ensures notes { (other : ℕ) → other < 64 → has other notes.old ≡ true → has other notes.new ≡ true }
+{
+    match notes.pick(cmd) {
+        None => unreachable!("the operator has posted each command"),
+        Some(note) => {
+            let _made = system.arrive(&note);
+            notes.put_back(note);
+        }
+    }
+}
+
+// Makes the entry that is to stand next.
+fn make(system: &mut System, notes: &mut Notes, entry: Entry)
+    requires next { IsNext system.old.deck system.old.trace entry }
+    requires notes { AreAll system.old.deck notes.old }
+    ensures trace { system.new.trace ≡ system.old.trace ++ entry ∷ [] }
+    ensures deck { system.new.deck ≡ system.old.deck }
+    ensures notes { AreAll system.new.deck notes.new }
+{
+    system.deck().keeps_its_form();
+    match entry.what {
+        What::Arrive { cmd, .. } => show(system, notes, cmd, entry),
+        _ => system.append(entry),
+    }
+}
+
+/// Runs a system from its start to its end, in turns. The notes are those of all commands of its deck: each is shown where
+/// it is its command's turn to arrive.
+pub fn seq_run(system: &mut System, notes: &mut Notes)
+    requires start { system.old.trace ≡ [] }
+    requires notes { AreAll system.old.deck notes.old }
     ensures trace { system.new.trace ≡ seq system.old.deck }
     ensures end { IsSome (end_of system.new.deck system.new.trace) }
     ensures deck { system.new.deck ≡ system.old.deck }
 {
-    let mut unit = 0;
-    'turns: while system.end().is_none() {
-        unit = turn(system, unit);
+    let mut turn = 0;
+    'turns: while let Some(entry) = system.turn(turn) {
+        turn = turn_after(system, turn, &entry);
+        make(system, notes, entry);
     }
 }

@@ -1,18 +1,28 @@
-use Rattle.std.proofs.Common.{◌∙◌, sym, refl, arith, length, ◌≡◌, ◌≤◌, subst, true, rules}
-use Rattle.std.specs.Prelude.{is_none}
+use Rattle.std.proofs.Common.{◌≤◌, arith, length, refl, subst, sym, ◌∙◌}
+use Rattle.std.specs.Prelude.{IfSome}
 use Rattle.rtm_items.specs.View.{DeckView}
-use Rattle.rtm_model.specs.History.{end_of}
-use Rattle.rtmrun.proofs.TurnLemmas.{all_left, next_turn, none_is}
+use Rattle.rtm_system.specs.Turned.{IsNext}
+use Rattle.rtmrun.proofs.TurnLemmas.{all_left, all_made, has_end, next_turn}
 use Rattle.rtmrun.proofs.turns.seq_run.Goals as goal
 
 pub turns-init : goal.turns-init
-turns-init c = record { deck = refl; unit_in = omega arith; so_far = all_left c.args.system.now.deck c.args.system.now.trace c.requires }
+turns-init c = record { deck = refl; turn_in = omega arith; notes = c.requires.notes; so_far = all_left c.args.system.now c.requires.start }
 
 pub turns-preserved : goal.turns-preserved
 turns-preserved c =
-    let e : is_none (end_of c.turns.system.deck c.turns.system.trace) ≡ true = search rules in
+    let step = sym c.turn.ensures.which ∙ c.in-Some.is in
+    let next = subst (λ o. IfSome o (IsNext c.turns.system.deck c.turns.system.trace)) c.in-Some.is c.turn.ensures.follows in
     record {
-      deck = c.turn-unit.ensures.deck ∙ c.turns.invariant.deck;
-      unit_in = subst (λ (d : DeckView). c.turn-unit.result ≤ length d.units) (sym c.turn-unit.ensures.deck) c.turn-unit.ensures.unit;
-      so_far = next_turn c.turns.system c.turn-unit.new.system c.turns.unit c.turn-unit.result _ c.turn-unit.ensures.made c.turn-unit.ensures.deck (none_is _ e) c.turns.invariant.so_far;
+      deck = c.make.ensures.deck ∙ c.turns.invariant.deck;
+      turn_in = subst (λ (d : DeckView). c.turn_after-turn.result ≤ length d.units) (sym c.make.ensures.deck) c.turn_after-turn.ensures.in_deck;
+      notes = c.make.ensures.notes;
+      so_far = next_turn c.turns.system c.make.new.system c.turns.turn c.turn_after-turn.result c.in-Some.entry _ step next c.turn_after-turn.ensures.next c.make.ensures.trace c.make.ensures.deck c.turns.invariant.so_far;
     }
+
+pub returns-clause-trace : goal.returns-clause-trace
+returns-clause-trace c =
+    all_made c.turns.system c.turns.turn _ (sym c.turn.ensures.which ∙ c.in_default.is) c.turns.invariant.so_far
+
+pub returns-clause-end : goal.returns-clause-end
+returns-clause-end c =
+    has_end c.turns.system c.turns.turn c.turns.invariant.turn_in (sym c.turn.ensures.which ∙ c.in_default.is)
