@@ -46,9 +46,9 @@ left_true : (a b : Bool) → (a && b) ≡ true → a ≡ true
 left_true true b e = refl
 left_true false b e = absurd cc
 
-due_if : (due : Bool) (fate : Fate) (target cmd : ℕ) (e : Entry) → arrival_of target cmd (if due then Some fate else None) ≡ Some e → due ≡ true
-due_if true fate target cmd e h = refl
-due_if false fate target cmd e h = absurd cc
+due_if : (due : Bool) (posted : Fate) (target cmd : ℕ) (e : Entry) → arrival_of target cmd (if due then Some posted else None) ≡ Some e → due ≡ true
+due_if true posted target cmd e h = refl
+due_if false posted target cmd e h = absurd cc
 
 cancellable_by : (d : DeckView) (w : World) (n cmd : ℕ) (o : Option Command) (e : Entry) → slice_get d.commands cmd ≡ o → arrival_of (target_of d cmd) cmd (arrival_fate d w n (not (goes_on d w)) cmd o) ≡ Some e
     → is_cancellable w (target_of d cmd) ≡ true

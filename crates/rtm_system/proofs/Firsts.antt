@@ -19,10 +19,10 @@ either P None b h i = i
 either P (Some x) b h i = h
 
 -- the arrival of that command
-arrives : (d : DeckView) (w : World) (n cmd : ℕ) (command : Command) (fate : Option Fate) → arrival_fate d w n (not (goes_on d w)) cmd (Some command) ≡ fate → slice_get d.commands cmd ≡ Some command
-    → IfSome (arrival_of command.target cmd fate) (λ e. MayFollow d w n e e.what)
+arrives : (d : DeckView) (w : World) (n cmd : ℕ) (command : Command) (posted : Option Fate) → arrival_fate d w n (not (goes_on d w)) cmd (Some command) ≡ posted → slice_get d.commands cmd ≡ Some command
+    → IfSome (arrival_of command.target cmd posted) (λ e. MayFollow d w n e e.what)
 arrives d w n cmd command None f s = tt
-arrives d w n cmd command (Some fate) f s =
+arrives d w n cmd command (Some posted) f s =
     ap (λ (o : Option Command). arrival_of (option_map_or (λ (c : Command). c.target) o 0) cmd (arrival_fate d w n (not (goes_on d w)) cmd o)) s
     ∙ ap (λ (o : Option Fate). arrival_of command.target cmd o) f
 
@@ -46,7 +46,7 @@ first_follows d w n = first_in d w n 0 d.commands (λ i command e. subst (λ (k 
 -- an entry may follow: an arrival as that of its command, any other as its unit's next
 pub arrival_may : (d : DeckView) (w : World) (n cmd : ℕ) (e : Entry) (what : What) → arriving what ≡ Some cmd → (b : Bool) → (IsTrue b → arrival d w n cmd ≡ Some e) × (arrival d w n cmd ≡ Some e → IsTrue b)
     → (IsTrue b → MayFollow d w n e what) × (MayFollow d w n e what → IsTrue b)
-arrival_may d w n cmd e (Arrive other fate) is b h = let same : other ≡ cmd = cc in subst (λ (k : ℕ). (IsTrue b → arrival d w n k ≡ Some e) × (arrival d w n k ≡ Some e → IsTrue b)) (sym same) h
+arrival_may d w n cmd e (Arrive other posted) is b h = let same : other ≡ cmd = cc in subst (λ (k : ℕ). (IsTrue b → arrival d w n k ≡ Some e) × (arrival d w n k ≡ Some e → IsTrue b)) (sym same) h
 arrival_may d w n cmd e (Exec at rc) is b h = absurd cc
 arrival_may d w n cmd e (Error at mark) is b h = absurd cc
 arrival_may d w n cmd e (Land class from mark) is b h = absurd cc
@@ -60,7 +60,7 @@ arrival_may d w n cmd e MemEnd is b h = absurd cc
 
 pub next_may : (d : DeckView) (w : World) (n : ℕ) (e : Entry) (what : What) → arriving what ≡ None → (b : Bool) → (IsTrue b → next d w e.unit ≡ Some what) × (next d w e.unit ≡ Some what → IsTrue b)
     → (IsTrue b → MayFollow d w n e what) × (MayFollow d w n e what → IsTrue b)
-next_may d w n e (Arrive cmd fate) is b h = absurd cc
+next_may d w n e (Arrive cmd posted) is b h = absurd cc
 next_may d w n e (Exec at rc) is b h = h
 next_may d w n e (Error at mark) is b h = h
 next_may d w n e (Land class from mark) is b h = h

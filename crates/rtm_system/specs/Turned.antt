@@ -29,5 +29,5 @@ pub record IsNext (d : DeckView) (trace : List Entry) (e : Entry) : Type 0 where
 
 -- the command whose arrival the entry is, if it is one
 abbrev pub arriving : What → Option ℕ
-arriving (Arrive cmd fate) = Some cmd
+arriving (Arrive cmd _) = Some cmd
 arriving _ = None
