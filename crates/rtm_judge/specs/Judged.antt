@@ -37,14 +37,14 @@ IsIllegal d entries _ = ⊥
 
 -- the fault is another end than the stated one
 abbrev pub IsOtherEnd : DeckView → List Entry → End → JudgeFault → Type 0
-IsOtherEnd d entries end (WrongEnd stated found) = IsWrongEnd d entries end stated found
+IsOtherEnd d entries end (WrongEnd claimed found) = IsWrongEnd d entries end claimed found
 IsOtherEnd d entries end _ = ⊥
 
 -- why the entries, with that end, aren't accepted
 abbrev pub IsFault : DeckView → List Entry → End → JudgeFault → Type 0
 IsFault d entries end Memory = Unit {0}
 IsFault d entries end (NotLegal index want) = IsFirstIllegal d entries index want
-IsFault d entries end (WrongEnd stated found) = IsWrongEnd d entries end stated found
+IsFault d entries end (WrongEnd claimed found) = IsWrongEnd d entries end claimed found
 
 -- the entry that was wanted, if one was, fits the deck, so that it has a text
 abbrev pub WantedFits : DeckView → JudgeFault → Type 0

@@ -35,7 +35,7 @@ abbrev pub not_legal_text : DeckView → ℕ → Option Entry → List ℕ
 not_legal_text d index wanted = codes "NOTLEGAL " ++ decimal index ++ codes " WANTED " ++ wanted_text d wanted ++ codes "\n"
 
 abbrev pub wrong_end_text : End → Option End → List ℕ
-wrong_end_text stated found = codes "WRONGEND " ++ end_text stated ++ codes " " ++ found_text found ++ codes "\n"
+wrong_end_text claimed found = codes "WRONGEND " ++ end_text claimed ++ codes " " ++ found_text found ++ codes "\n"
 
 abbrev pub verified_text : ℕ → End → List ℕ
 verified_text entries end = codes "VERIFIED " ++ decimal entries ++ codes " " ++ end_text end ++ codes "\n"
