@@ -1,6 +1,6 @@
 //! The system: a deck, what lives of it, and the trace that it has made.
 
-ghost use Rattle.std.specs.Prelude.{◌≡◌, ◌≤◌, ◌<◌, ◌++◌, ◌∷◌, ◌+◌, [], length, nat_le, not, IsTrue, IfOk, Some};
+ghost use Rattle.std.specs.Prelude.{◌≡◌, ◌≤◌, ◌<◌, ◌++◌, ◌∷◌, ◌+◌, [], length, nat_le, IsTrue, IfOk, Some};
 ghost use Rattle.std.specs.List.{AllByRecursion};
 ghost use Rattle.rtm_items.specs.WellFormed.{is_well_formed};
 ghost use Rattle.rtm_model.specs.declared.entry.Entry.{Entry};
@@ -146,13 +146,6 @@ impl System {
         self.deck.keeps_its_form();
         self.machine
             .first_arrival(&self.deck, self.trace.len(), quiet)
-    }
-
-    /// The arrival of the command whose turn it is in the order of a single thread, if one may arrive now.
-    pub fn next_arrival(&self) -> Option<Entry>
-        ensures { result ≡ first_arrival self.now.deck (world self.now.deck self.now.trace) (length self.now.trace) (not (goes_on self.now.deck (world self.now.deck self.now.trace))) }
-    {
-        self.first_arrival(!self.goes_on())
     }
 
     /// What becomes of the cancel that the command posts, where it may arrive. The limit of entries isn't asked.

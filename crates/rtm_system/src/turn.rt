@@ -5,7 +5,7 @@ ghost use Rattle.std.specs.Option.{option_or};
 ghost use Rattle.rtm_model.specs.Arrivals.{arrival};
 ghost use Rattle.rtm_model.specs.Births.{world};
 ghost use Rattle.rtm_model.specs.Legal.{MayFollow};
-ghost use Rattle.rtm_model.specs.Turns.{turn};
+ghost use Rattle.rtm_model.specs.Turns.{turn, turn_after};
 ghost use Rattle.rtm_model.specs.World.{World};
 ghost use Rattle.rtm_system.specs.Turned.{IsNext, arriving, turn_of, wanted};
 
@@ -105,6 +105,20 @@ impl System {
         self.whose_turn(first)
     }
 
+    /// Whose turn comes once the entry is made: that of the unit behind its own, round past the master. An arrival leaves the
+    /// turn where it is.
+    pub fn turn_after(&self, turn: u16, entry: &Entry) -> u16
+        requires turn { turn ≤ length self.now.deck.units }
+        requires unit { entry.now.unit ≤ length self.now.deck.units }
+        ensures next { result ≡ turn_after self.now.deck turn entry.now.unit entry.now.what }
+        ensures in_deck { result ≤ length self.now.deck.units }
+    {
+        match entry.what {
+            What::Arrive { .. } => turn,
+            _ => unit_after(self.deck().unit_count(), entry.unit),
+        }
+    }
+
     /// The arrival of the command of that number, where it may arrive.
     fn arrival(&self, cmd: u8) -> Option<Entry>
         ensures { result ≡ arrival self.now.deck (world self.now.deck self.now.trace) (length self.now.trace) cmd }
@@ -120,7 +134,7 @@ impl System {
 
     /// Whether the entry is the one that its unit, or the command that it lets arrive, makes now. The limit isn't asked.
     #[tactic(auto, using(crate::proofs::Firsts::arrival_may, crate::proofs::Firsts::next_may))]
-    fn may_be(&self, entry: &Entry) -> bool
+    fn may_stand(&self, entry: &Entry) -> bool
         ensures { IsTrue result ↔ MayFollow self.now.deck (world self.now.deck self.now.trace) (length self.now.trace) entry.now entry.now.what }
     {
         match arriving(entry.what) {
@@ -133,7 +147,7 @@ impl System {
     pub fn may_follow(&self, entry: &Entry) -> bool
         ensures { IsTrue result ↔ IsNext self.now.deck self.now.trace entry.now }
     {
-        !self.is_at_limit() && self.may_be(entry)
+        !self.is_at_limit() && self.may_stand(entry)
     }
 
     /// The one entry that the unit of that number may make next: none where it has none, where there is no such unit, and

@@ -6,3 +6,5 @@
 mod tests;
 #[cfg(test)]
 mod trace_tests;
+#[cfg(test)]
+mod misspelling_tests;

@@ -4,3 +4,4 @@ pub mod Arrives
 pub mod Faulted
 pub mod TurnLemmas
 pub mod AnswerLemmas
+pub mod Complete

@@ -77,6 +77,6 @@ abbrev pub IsOfTrace : DeckView → List ℕ → List ℕ → Status → Type 0
 IsOfTrace d bytes text status.Line = NamesLine d bytes text
 IsOfTrace d bytes text s = (trace : TraceView) × IsTraceOf d bytes trace × IsJudgement d trace text s
 
--- what is written of an input whose deck is spelled
+-- what is written of an input whose deck is spelled; none is in an input that is too long
 abbrev pub IsVerified : List ℕ → List ℕ → Status → Type 0
-IsVerified bytes text s = (d : DeckView) × DeckText (deck_part bytes) d × IsOfTrace d (trace_part bytes) text s
+IsVerified bytes text s = (d : DeckView) × DeckText (faulted_part bytes) d × IsOfTrace d (trace_part bytes) text s

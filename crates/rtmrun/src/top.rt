@@ -5,6 +5,7 @@ ghost use Rattle.rtm_io.specs.Faults.{HasRisen, HasCause};
 ghost use Rattle.rtm_io.specs.Stream.{Appends, AppendsPrefix};
 ghost use Rattle.rtmrun.specs.declared.request.Request.{Request};
 ghost use Rattle.rtmrun.specs.Answer.{AreUnknown, IsAnswer, IsAnswerOf, IsDue, IsRequest, IsUnread, Reads, Says, refusal_text, words_of};
+ghost use Rattle.rtmrun.specs.Due.{IsComplete};
 ghost use Rattle.rtmrun.specs.Run.{IsLoad};
 
 use crate::answer::{Answer, refusal, scan_bytes, seq_bytes};
@@ -130,7 +131,19 @@ pub fn plain_words<S: Source, K: Sink>(
     // A load reads nothing.
     ensures load { (tasks : ℕ) → IsRequest (Request.Load tasks) → words.now ≡ words_of (Request.Load tasks) → src.new ≡ src.old }
 
+    // What the status says of what was read and written.
     ensures answer { (request : Request) → IsRequest request → words.now ≡ words_of request → Says request (record {
+      left = S.left src.old;
+      source_before = S.faults src.old;
+      source_now = S.faults src.new;
+      sink_before = K.faults out.old;
+      sink_now = K.faults out.new;
+      written_before = K.written out.old;
+      written_now = K.written out.new;
+    }) result.status }
+
+    // Where no count of faults rose and memory isn't refused, the status is the one that is due.
+    ensures complete { (request : Request) → IsRequest request → words.now ≡ words_of request → IsComplete request (record {
       left = S.left src.old;
       source_before = S.faults src.old;
       source_now = S.faults src.new;

@@ -1,38 +1,17 @@
 //! The order of turns on one thread.
 
-ghost use Rattle.std.specs.Prelude.{◌≡◌, ◌<◌, ◌≤◌, ◌+◌, ◌++◌, ◌==◌, ◌∷◌, [], ℕ, IsSome, Some, if◌then◌else◌, length, true};
+ghost use Rattle.std.specs.Prelude.{◌≡◌, ◌<◌, ◌++◌, ◌∷◌, [], ℕ, IsSome, Some, length, true};
 ghost use Rattle.rtm_board.specs.Commands.{has};
 ghost use Rattle.rtm_model.specs.Arrivals.{arrival};
 ghost use Rattle.rtm_model.specs.Births.{world};
 ghost use Rattle.rtm_model.specs.Legal.{end_of};
-ghost use Rattle.rtm_model.specs.Turns.{seq, turn_after};
+ghost use Rattle.rtm_model.specs.Turns.{seq};
 ghost use Rattle.rtm_system.specs.Turned.{IsNext};
 ghost use Rattle.rtmrun.specs.Commands.{AreAll};
 
 use rtm_board::Notes;
 use rtm_model::{Entry, What};
 use rtm_system::System;
-
-// The unit after `unit`, round past the master, whose number is `count`.
-fn unit_after(count: u16, unit: u16) -> u16
-    requires { unit ≤ count }
-    ensures { result ≡ (if unit == count then 0 else unit + 1) }
-{
-    if unit == count { 0 } else { unit + 1 }
-}
-
-// Whose turn comes after the entry; an arrival leaves it where it is.
-fn turn_after(system: &System, turn: u16, entry: &Entry) -> u16
-    requires turn { turn ≤ length system.now.deck.units }
-    requires unit { entry.now.unit ≤ length system.now.deck.units }
-    ensures next { result ≡ turn_after system.now.deck turn entry.now.unit entry.now.what }
-    ensures in_deck { result ≤ length system.now.deck.units }
-{
-    match entry.what {
-        What::Arrive { .. } => turn,
-        _ => unit_after(system.deck().unit_count(), entry.unit),
-    }
-}
 
 // Shows the system the note of the command whose arrival is to stand next.
 #[tactic(auto, using(crate::proofs::Notes::kept))]
@@ -80,7 +59,7 @@ pub fn seq_run(system: &mut System, notes: &mut Notes)
 {
     let mut turn = 0;
     'turns: while let Some(entry) = system.turn(turn) {
-        turn = turn_after(system, turn, &entry);
+        turn = system.turn_after(turn, &entry);
         make(system, notes, entry);
     }
 }

@@ -151,10 +151,12 @@ static REFUSED: [(&str, &str); 3] = [
     ("", "DECK 1 NoJobStep\n"),
 ];
 
-// Runs the program with these words on an input in parts, and compares what it answers.
+// Runs the program with these words on an input in parts, with calls of the source that fail, and compares what it
+// answers.
 fn is_said(
     rt: &(impl Abort + AllocGlobal),
     list: &[&str],
+    fail: &[u32],
     deck: &str,
     trace: &[&str],
     status: Status,
@@ -165,7 +167,7 @@ fn is_said(
     for part in trace {
         input.extend_from_slice(part.as_bytes())?;
     }
-    let mut src = MemSource::new(input, Vec::new(alloc));
+    let mut src = MemSource::new(input, Vec::from_slice(alloc, fail)?);
     let mut out = MemSink::new(alloc, 1_000, Vec::new(alloc))?;
     let outcome = plain_words(alloc, &words(alloc, list)?, &mut src, &mut out);
     assert!(rt; outcome.status == status, "{text}");
@@ -176,12 +178,13 @@ fn is_said(
 #[test]
 fn traces_are_judged(rt: HostRuntime) -> Result<(), Fail> {
     for (trace, status, text) in SHORT.iter() {
-        is_said(&rt, &["verify"], ROW_1, trace, *status, text)?;
+        is_said(&rt, &["verify"], &[], ROW_1, trace, *status, text)?;
     }
     for (trace, status, text) in BATCH.iter() {
         is_said(
             &rt,
             &["verify"],
+            &[],
             endings::ROWS[1].deck,
             trace,
             *status,
@@ -189,9 +192,21 @@ fn traces_are_judged(rt: HostRuntime) -> Result<(), Fail> {
         )?;
     }
     for (input, text) in REFUSED.iter() {
-        is_said(&rt, &["verify"], input, &[], Status::Deck, text)?;
+        is_said(&rt, &["verify"], &[], input, &[], Status::Deck, text)?;
     }
     Ok(())
+}
+
+// An input that is too long as a whole is refused, however short its deck is: the lines of deck and trace are counted.
+#[test]
+fn traces_are_not_too_long(rt: HostRuntime) -> Result<(), Fail> {
+    let alloc = rt.alloc();
+    let mut line = String::new(alloc);
+    for _ in 0..262_144 {
+        line.push_str("****************************************************************")?;
+    }
+    let trace = ["RTMTRACE 1\n", line.as_str()];
+    is_said(&rt, &["verify"], &[], ROW_1, &trace, Status::Deck, "DECK 8 TooLong\n")
 }
 
 // The source fails at its first call, but a load makes none.
@@ -202,7 +217,7 @@ fn loads_are_run(rt: HostRuntime) -> Result<(), Fail> {
         ("60", "LOAD 60 ENTRIES 29345 RELEASES 2461 ENDED\n"),
     ];
     for (number, text) in cases {
-        is_said(&rt, &["load", number], "", &[], Status::Fine, text)?;
+        is_said(&rt, &["load", number], &[0], "", &[], Status::Fine, text)?;
     }
     Ok(())
 }

@@ -1,4 +1,5 @@
 use Rattle.std.proofs.Common.{sym, ◌∙◌}
+use Rattle.rtmrun.proofs.Complete.{is_complete}
 use Rattle.rtmrun.proofs.Words.{says_same, words_same}
 use Rattle.rtmrun.proofs.top.plain_words.Goals as goal
 
@@ -13,3 +14,7 @@ returns-in-Some-clause-answer g c = λ request is_request words.
       written_before = g.K.Sink.written c.args.out.now;
       written_now = g.K.Sink.written c.done.new.out;
     }) c.done.result (words_same c.in-Some.request request c.in-Some.ensures.0 is_request (sym c.in-Some.ensures.1 ∙ words)) c.done.ensures.answer
+
+pub returns-in-Some-clause-complete : goal.returns-in-Some-clause-complete
+returns-in-Some-clause-complete g c = λ request is_request words.
+    is_complete request _ c.done.result (returns-in-Some-clause-answer g c request is_request words)
