@@ -1,6 +1,6 @@
 //! The one entry that a unit may make next, and whether any has one.
 
-ghost use Rattle.std.specs.Prelude.{◌≡◌, true, ◌<◌, ◌≤◌, ◌^◌, length, position, slice_get, not};
+ghost use Rattle.std.specs.Prelude.{◌≡◌, None, true, ◌<◌, ◌≤◌, ◌^◌, length, position, slice_get, not};
 ghost use Rattle.rtm_model.specs.Arrivals.{goes_on};
 ghost use Rattle.rtm_model.specs.NextEntry.{next, next_of_unit, next_of_master, next_unit, next_master};
 ghost use Rattle.rtm_model.specs.Outside.{around};
@@ -19,7 +19,7 @@ use rtm_unit::UnitState;
 
 /// Whether the unit waits at a card of WAIT or WAITT, where what it waits for is there or not.
 #[inline(always)]
-fn waits(deck: &Deck, unit: u16, state: &UnitState, found: bool) -> bool
+fn has_to_wait(deck: &Deck, unit: u16, state: &UnitState, found: bool) -> bool
     ensures { result ≡ waits_at deck.now unit state.now.core found }
 {
     !found && !is_srb(deck, unit) && state.may_wait()
@@ -52,7 +52,7 @@ impl Machine {
     }
 
     /// The next entry of a unit that goes on with its card: the cards that are met most need no look at the rest.
-    #[tactic(auto, using(crate::proofs::Calm::executes_nop, crate::proofs::Calm::executes_branch, crate::proofs::Calm::waits_for_event, crate::proofs::Calm::waits_for_task))]
+    #[tactic(auto, using(crate::proofs::Calm::executes_nop, crate::proofs::Calm::executes_branch))]
     #[inline(always)]
     fn next_by_card(&self, deck: &Deck, unit: u16, state: &UnitState) -> Option<What>
         requires state { state.now ≡ unit_at unit self.now.units }
@@ -62,10 +62,45 @@ impl Machine {
         match state.card_here(deck, &Op::Return) {
             Op::Nop => state.executed(),
             Op::Branch { .. } => state.executed(),
-            Op::Wait { event } if waits(deck, unit, state, self.tree.event_posted(*event)) => None,
-            Op::WaitTask { unit: task } if waits(deck, unit, state, self.tree.ended(*task)) => None,
             _ => self.next_by_case(deck, unit, state),
         }
+    }
+
+    /// Whether a unit that goes on with its card waits there.
+    #[tactic(auto, using(crate::proofs::Calm::waits_for_event, crate::proofs::Calm::waits_for_task))]
+    #[inline(always)]
+    fn waits_at_its_card(&self, deck: &Deck, unit: u16, state: &UnitState) -> bool
+        requires state { state.now ≡ unit_at unit self.now.units }
+        requires calm { is_calm state.now ≡ true }
+        ensures { result ≡ true → next_unit deck.now (core_at unit self.now) (around deck.now self.now unit) ≡ None }
+    {
+        match state.card_here(deck, &Op::Return) {
+            Op::Wait { event } => has_to_wait(deck, unit, state, self.tree.event_posted(*event)),
+            Op::WaitTask { unit: task } => has_to_wait(deck, unit, state, self.tree.ended(*task)),
+            _ => false,
+        }
+    }
+
+    /// Whether a unit that lives waits at its card.
+    #[inline(always)]
+    fn waits(&self, deck: &Deck, unit: u16) -> bool
+        ensures { result ≡ true → next_unit deck.now (core_at unit self.now) (around deck.now self.now unit) ≡ None }
+    {
+        match self.units.get(unit as usize) {
+            None => false,
+            Some(state) => state.is_calm() && self.waits_at_its_card(deck, unit, state),
+        }
+    }
+
+    /// Whether it is seen at a glance that the unit of that number has no next entry: it doesn't live, it waits at its card, or
+    /// it isn't its time. Who tries units in turns skips it so; of others `next` has to be asked.
+    pub fn is_idle(&self, deck: &Deck, unit: u16) -> bool
+        ensures { result ≡ true → next deck.now self.now unit ≡ None }
+    {
+        if unit == deck.unit_count() {
+            return self.memory_end.is_none();
+        }
+        self.memory_end.is_some() || !self.tree.living(unit) || self.waits(deck, unit)
     }
 
     /// The next entry of the unit of that number, where it lives and memory end hasn't begun.

@@ -1,6 +1,6 @@
 //! The system: a deck, what lives of it, and the trace that it has made.
 
-ghost use Rattle.std.specs.Prelude.{◌≡◌, ◌≤◌, ◌<◌, ◌++◌, ◌∷◌, ◌+◌, [], length, nat_le, IsTrue, IfOk, Some};
+ghost use Rattle.std.specs.Prelude.{◌≡◌, ◌≤◌, ◌<◌, ◌++◌, ◌∷◌, ◌+◌, [], length, nat_le, true, IsTrue, IfOk, None, Some};
 ghost use Rattle.std.specs.List.{AllByRecursion};
 ghost use Rattle.rtm_items.specs.WellFormed.{is_well_formed};
 ghost use Rattle.rtm_model.specs.declared.entry.Entry.{Entry};
@@ -89,6 +89,14 @@ impl System {
     {
         self.is_shaped();
         self.machine.next(&self.deck, unit)
+    }
+
+    /// Whether it is seen at a glance that the unit has no next entry.
+    #[inline(always)]
+    pub(crate) fn is_idle(&self, unit: u16) -> bool
+        ensures { result ≡ true → next self.now.deck (world self.now.deck self.now.trace) unit ≡ None }
+    {
+        self.machine.is_idle(&self.deck, unit)
     }
 
     /// The unit that went on last.

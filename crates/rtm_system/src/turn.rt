@@ -5,6 +5,7 @@ ghost use Rattle.std.specs.Option.{option_or};
 ghost use Rattle.rtm_model.specs.Arrivals.{arrival};
 ghost use Rattle.rtm_model.specs.Births.{world};
 ghost use Rattle.rtm_model.specs.Legal.{MayFollow};
+ghost use Rattle.rtm_model.specs.NextEntry.{next};
 ghost use Rattle.rtm_model.specs.Turns.{turn, turn_after};
 ghost use Rattle.rtm_model.specs.World.{World};
 ghost use Rattle.rtm_system.specs.Turned.{IsNext, arriving, turn_of, wanted};
@@ -50,6 +51,18 @@ fn arriving(what: What) -> Option<u8>
 }
 
 impl System {
+    /// The next entry of the unit of that number. Most units wait, and are passed over at a glance.
+    #[inline(always)]
+    fn next_if_any(&self, unit: u16) -> Option<What>
+        ensures { result ≡ next self.now.deck (world self.now.deck self.now.trace) unit }
+    {
+        if self.is_idle(unit) {
+            None
+        } else {
+            self.next(unit)
+        }
+    }
+
     /// The entry of the first unit that has one, from `first` on and round past the master.
     #[tactic(auto, using(crate::proofs::Rounds::round_begins, crate::proofs::Rounds::round_skips, crate::proofs::Rounds::round_finds, crate::proofs::Rounds::round_ends))]
     fn round(&self, first: u16) -> Option<Entry>
@@ -59,7 +72,7 @@ impl System {
         let count = self.deck().unit_count();
         let mut unit = first;
         'units: for _tried in 0..u32::from(count) + 1 {
-            if let Some(what) = self.next(unit) {
+            if let Some(what) = self.next_if_any(unit) {
                 return Some(Entry { unit, what });
             }
             unit = unit_after(count, unit);
