@@ -11,3 +11,4 @@ pub mod Shapes
 pub mod Places
 pub mod TraceLaws
 pub mod Replies
+pub mod Remembered

@@ -1,5 +1,6 @@
 pub mod Text
 pub mod View
+pub mod Known
 pub mod Lines
 pub mod Answer
 pub mod Words

@@ -12,7 +12,8 @@ use crate::word::{
 use rtm_codes::{Code, read_code};
 use rtm_model::{Entry, Fate, Mark, Place, Verdict, What};
 
-fn unit_in(names: &Names, count: u16, word: &[u8]) -> Option<u16>
+/// The unit of that name; an asterisk is the master, whose number is that count.
+pub(crate) fn unit_in(names: &Names, count: u16, word: &[u8]) -> Option<u16>
     ensures { result ≡ unit_in names.now count word.now }
 {
     if word == b"*".as_slice() {

@@ -5,6 +5,7 @@ mod entry_line;
 mod fault;
 mod fit;
 mod form;
+mod known;
 mod laws;
 mod names;
 pub mod push;

@@ -76,12 +76,19 @@ fn len_of(field: &[u8]) -> usize
     field.iter().take_while(|b| **b != b' ').count()
 }
 
-/// Puts a name without its padding.
+/// A name without its padding.
 #[tactic(auto, using(crate::proofs::Front::take_front))]
-pub fn name(out: &mut Vec<u8>, name: &Name) -> Result<(), NoMemory>
-    ensures { OnOk result (out.new.items ≡ out.old.items ++ trimmed name.now) }
+pub(crate) fn name_text(name: &Name) -> &[u8]
+    ensures { result.now ≡ trimmed name.now }
 {
     let field = &name.0;
     let (text, _blanks) = field.split_at(len_of(field));
-    bytes(out, text)
+    text
+}
+
+/// Puts a name without its padding.
+pub fn name(out: &mut Vec<u8>, name: &Name) -> Result<(), NoMemory>
+    ensures { OnOk result (out.new.items ≡ out.old.items ++ trimmed name.now) }
+{
+    bytes(out, name_text(name))
 }

@@ -2,6 +2,7 @@
 
 ghost use Rattle.std.specs.Prelude.{◌≡◌, ◌+◌, ◌≤◌, ◌<◌, [], ◌∷◌, length, take, drop, IfOk, IfErr, ℕ};
 ghost use Rattle.rtm_trace.specs.Answer.{IsFaultOf, IsThatTrace, IsThatLine, Gives};
+ghost use Rattle.rtm_trace.specs.Known.{AreKnown};
 ghost use Rattle.rtm_trace.specs.Lines.{IsTraceOf, IsFirstBadLine, text_lines};
 ghost use Rattle.rtm_trace.specs.Reading.{confirmed, entry_on, ended, read_on, read_lines};
 ghost use Rattle.rtm_trace.specs.View.{TraceView};
@@ -10,6 +11,7 @@ ghost use Rattle.rtm_trace.specs.Words.{names_of, first_of, after_of};
 use crate::entry_line::line_in;
 use crate::fault::TraceFault;
 use crate::fit::fits;
+use crate::known::{Places, behind_index, cut_unit, no_places, recall, remember};
 use crate::names::Names;
 use crate::text::push_line;
 use crate::word::end_in;
@@ -56,7 +58,7 @@ fn confirmed(
     })
 }
 
-// The entry of that index whose line it is.
+// The entry of that index whose line it is, read anew.
 fn entry_on(
     deck: &Deck,
     names: &Names,
@@ -71,6 +73,43 @@ fn entry_on(
         None => Ok(None),
         Some(entry) => confirmed(deck, index, line, entry, text),
     }
+}
+
+// The same, of a line that says what one did that was read lately, or else read anew and remembered. Last is the unit of the
+// line before.
+fn known_or_read<'a>(
+    deck: &Deck,
+    names: &Names,
+    index: u64,
+    last: u16,
+    line: &'a [u8],
+    text: &mut Vec<u8>,
+    places: &mut Places<'a>,
+) -> Result<Option<Entry>, NoMemory>
+    requires names { names.now ≡ names_of deck.now }
+    requires known { AreKnown deck.now places.old }
+    ensures found { IfOk result (λ found. found ≡ entry_on deck.now index line.now) }
+    ensures known { AreKnown deck.now places.new }
+{
+    deck.keeps_its_form();
+    let behind = match behind_index(line, index, text)? {
+        None => return entry_on(deck, names, index, line, text),
+        Some(behind) => behind,
+    };
+    let (unit, rest) = match cut_unit(deck, names, last, behind) {
+        None => return entry_on(deck, names, index, line, text),
+        Some(found) => found,
+    };
+    if let Some(what) = recall(places, rest) {
+        return Ok(Some(Entry { unit, what }));
+    }
+    let found = entry_on(deck, names, index, line, text)?;
+    if let Some(entry) = found {
+        if entry.unit == unit {
+            remember(places, rest, entry.what);
+        }
+    }
+    Ok(found)
 }
 
 // How many bytes the first line has, with its line feed.
@@ -131,15 +170,21 @@ fn read_on(alloc: Global, deck: &Deck, names: &Names, lines: &[u8]) -> Result<Tr
 {
     let mut entries = Vec::new(alloc);
     let mut text = Vec::new(alloc);
+    let mut places = no_places();
+    let mut last = 0;
     let mut rest = lines;
     'lines: while !rest.is_empty() {
         let (line, behind) = cut_line(rest);
         if let Some(end) = end_in(line) {
             return ended(entries, end, behind);
         }
-        match entry_on(deck, names, entries.len() as u64, line, &mut text)? {
+        let index = entries.len() as u64;
+        match known_or_read(deck, names, index, last, line, &mut text, &mut places)? {
             None => return Err(bad_line(entries.len())),
-            Some(entry) => entries.push(entry)?,
+            Some(entry) => {
+                last = entry.unit;
+                entries.push(entry)?;
+            }
         }
         rest = behind;
     }

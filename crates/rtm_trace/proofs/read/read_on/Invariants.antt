@@ -1,4 +1,5 @@
 use Rattle.std.proofs.Common.{◌≡◌, ◌+◌, ◌≤◌, [], length}
+use Rattle.rtm_trace.specs.Known.{AreKnown}
 use Rattle.rtm_trace.specs.Lines.{text_lines}
 use Rattle.rtm_trace.specs.Reading.{read_on}
 use Rattle.rtm_trace.proofs.read.read_on.Given as goal
@@ -8,6 +9,7 @@ abbrev pub invariant-lines : goal.invariant-lines
 invariant-lines l = record {
   read : read_on l.deck l.entries.items (text_lines l.rest) ≡ read_on l.deck [] (text_lines l.initial.rest);
   room : length l.entries.items + length l.rest ≤ length l.initial.rest;
+  known : AreKnown l.deck l.places;
 }
 
 abbrev pub decreases-lines : goal.decreases-lines

@@ -1,0 +1,128 @@
+//! What lines said that were read lately. A program that loops, or that many units run, says the same over and over, but for
+//! the index and the unit of each line: what stands behind these is known by its bytes, and needn't be read anew.
+
+ghost use Rattle.std.specs.Prelude.{◌≡◌, ◌<◌, ◌++◌, IfOk, IfSome};
+ghost use Rattle.rtm_items.specs.View.{DeckView};
+ghost use Rattle.rtm_trace.specs.Known.{AreKnown, IsBehindUnit, IsSaid, index_part};
+ghost use Rattle.rtm_trace.specs.Words.{names_of};
+
+use crate::entry_line::unit_in;
+use crate::names::Names;
+use crate::push;
+use crate::word::cut_word;
+use rtm_codes::NoMemory;
+use rtm_items::Deck;
+use rtm_model::What;
+
+/// What stands behind the unit of a line that was read, and what it says.
+#[derive(Clone, Copy)]
+pub(crate) struct Known<'a> {
+    bytes: &'a [u8],
+    what: What,
+}
+
+/// How many are remembered.
+const PLACES: usize = 64;
+
+/// What was read lately, each at the place that its bytes give.
+pub(crate) type Places<'a> = [Option<Known<'a>>; PLACES];
+
+// The place of such bytes. Any would do; this one tells most lines of a loop apart.
+fn place_of(bytes: &[u8]) -> usize
+    ensures { result < 64 }
+{
+    let mut sum = 0u64;
+    for byte in bytes {
+        sum = sum.wrapping_mul(31).wrapping_add(u64::from(*byte));
+    }
+    (sum % PLACES as u64) as usize
+}
+
+/// Nothing is remembered.
+pub(crate) fn no_places<'a>() -> Places<'a>
+    ensures { (d : DeckView) → AreKnown d result }
+{
+    [None; PLACES]
+}
+
+/// What these bytes say, if they were read lately.
+pub(crate) fn recall(places: &Places<'_>, bytes: &[u8]) -> Option<What>
+    ensures { (d : DeckView) → AreKnown d places.now → IfSome result (IsSaid d bytes.now) }
+{
+    let place = places[place_of(bytes)];
+    let known = place?;
+    if known.bytes == bytes {
+        Some(known.what)
+    } else {
+        None
+    }
+}
+
+/// Remembers what these bytes say, in the place of others.
+#[tactic(auto, using(crate::proofs::Remembered::all_set))]
+pub(crate) fn remember<'a>(places: &mut Places<'a>, bytes: &'a [u8], what: What)
+    ensures { (d : DeckView) → AreKnown d places.old → IsSaid d bytes.now what → AreKnown d places.new }
+{
+    places[place_of(bytes)] = Some(Known { bytes, what });
+}
+
+// What stands behind that text, where the line begins with it.
+fn behind<'a>(line: &'a [u8], text: &[u8]) -> Option<&'a [u8]>
+    ensures { IfSome result (λ rest. line.now ≡ text.now ++ rest.now) }
+{
+    if line.len() < text.len() {
+        return None;
+    }
+    let (front, rest) = line.split_at(text.len());
+    if front == text { Some(rest) } else { None }
+}
+
+/// What stands behind the index of a line and its blank, where the index is that one. The text is room for the index.
+pub(crate) fn behind_index<'a>(
+    line: &'a [u8],
+    index: u64,
+    text: &mut Vec<u8>,
+) -> Result<Option<&'a [u8]>, NoMemory>
+    ensures { IfOk result (λ found. IfSome found (λ rest. line.now ≡ index_part index ++ rest.now)) }
+{
+    text.clear();
+    push::number(text, index)?;
+    push::bytes(text, b" ")?;
+    Ok(behind(line, text))
+}
+
+// What stands behind the unit of that number and its blank, where it is that one.
+#[tactic(auto, using(crate::proofs::Remembered::behind_both))]
+fn behind_unit<'a>(deck: &Deck, unit: u16, line: &'a [u8]) -> Option<&'a [u8]>
+    ensures { IfSome result (λ rest. IsBehindUnit deck.now line.now unit rest.now) }
+{
+    if unit == deck.unit_count() {
+        return behind(line, b"* ");
+    }
+    let card = deck.units.get(unit as usize)?;
+    let rest = behind(line, push::name_text(&card.name))?;
+    behind(rest, b" ")
+}
+
+/// The unit that the line begins with, and what stands behind it and its blank. The one that was met last is tried first, and
+/// then the one after it, before the names are searched.
+pub(crate) fn cut_unit<'a>(
+    deck: &Deck,
+    names: &Names,
+    last: u16,
+    line: &'a [u8],
+) -> Option<(u16, &'a [u8])>
+    ensures { IfSome result (λ found. IsBehindUnit deck.now line.now found.0 found.1.now) }
+{
+    if let Some(rest) = behind_unit(deck, last, line) {
+        return Some((last, rest));
+    }
+    let next = last.saturating_add(1);
+    if let Some(rest) = behind_unit(deck, next, line) {
+        return Some((next, rest));
+    }
+    let (word, _) = cut_word(line);
+    let unit = unit_in(names, deck.unit_count(), word)?;
+    let rest = behind_unit(deck, unit, line)?;
+    Some((unit, rest))
+}
