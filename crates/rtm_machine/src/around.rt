@@ -61,76 +61,50 @@ impl Machine {
         requires { state.now ≡ unit_at unit self.now.units }
         ensures { result ≡ asked_by_card deck.now self.now unit op.now }
     {
-        let asked = Around {
+        let mut asked = Around {
             abort: state.first_abort(),
             ..NOTHING_ASKED
         };
         match op {
-            Op::Return => Around {
-                subtask: self.tree.subtasks_left(unit),
-                ..asked
-            },
-            Op::Wait { event } => Around {
-                srb: is_srb(deck, unit),
-                found: self.tree.event_posted(*event),
-                ..asked
-            },
-            Op::WaitTask { unit: task } => Around {
-                srb: is_srb(deck, unit),
-                found: self.tree.ended(*task),
-                ..asked
-            },
-            Op::Post { event } => Around {
-                found: self.tree.event_posted(*event),
-                ..asked
-            },
-            Op::Get { .. } => Around {
-                crowded: self.holds.is_full(unit),
-                ..asked
-            },
-            Op::Free { class, id } => Around {
-                found: self.holds.find(unit, *class, *id).is_some(),
-                ..asked
-            },
-            Op::MgrAdd { .. } => Around {
-                srb: is_srb(deck, unit),
-                crowded: self.managers.is_full(),
-                ..asked
-            },
-            Op::MgrDelete { prog, space } => Around {
-                srb: is_srb(deck, unit),
-                found: self.managers.find(*prog, managed(unit, *space)).is_some(),
-                ..asked
-            },
-            Op::Attachx { unit: task, .. } => Around {
-                srb: is_srb(deck, unit),
-                unborn: self.tree.dormant(*task),
-                ..asked
-            },
-            Op::Schedule { unit: srb } => Around {
-                unborn: self.tree.dormant(*srb),
-                ..asked
-            },
-            Op::Detach { unit: task, .. } => Around {
-                srb: is_srb(deck, unit),
-                own: self.tree.attached(unit, *task),
-                fate: self.fate_in(*task, Class::Detach),
-                ..asked
-            },
-            Op::Abterm { unit: task, .. } => Around {
-                fate: self.fate_in(*task, Class::Abterm),
-                ..asked
-            },
+            Op::Return => asked.subtask = self.tree.subtasks_left(unit),
+            Op::Wait { event } => {
+                asked.srb = is_srb(deck, unit);
+                asked.found = self.tree.event_posted(*event);
+            }
+            Op::WaitTask { unit: task } => {
+                asked.srb = is_srb(deck, unit);
+                asked.found = self.tree.ended(*task);
+            }
+            Op::Post { event } => asked.found = self.tree.event_posted(*event),
+            Op::Get { .. } => asked.crowded = self.holds.is_full(unit),
+            Op::Free { class, id } => asked.found = self.holds.find(unit, *class, *id).is_some(),
+            Op::MgrAdd { .. } => {
+                asked.srb = is_srb(deck, unit);
+                asked.crowded = self.managers.is_full();
+            }
+            Op::MgrDelete { prog, space } => {
+                asked.srb = is_srb(deck, unit);
+                asked.found = self.managers.find(*prog, managed(unit, *space)).is_some();
+            }
+            Op::Attachx { unit: task, .. } => {
+                asked.srb = is_srb(deck, unit);
+                asked.unborn = self.tree.dormant(*task);
+            }
+            Op::Schedule { unit: srb } => asked.unborn = self.tree.dormant(*srb),
+            Op::Detach { unit: task, .. } => {
+                asked.srb = is_srb(deck, unit);
+                asked.own = self.tree.attached(unit, *task);
+                asked.fate = self.fate_in(*task, Class::Detach);
+            }
+            Op::Abterm { unit: task, .. } => asked.fate = self.fate_in(*task, Class::Abterm),
             Op::Link { .. }
             | Op::Xctl { .. }
             | Op::EstaexCt { .. }
             | Op::EstaexOv { .. }
-            | Op::EstaexZero => Around {
-                srb: is_srb(deck, unit),
-                ..asked
-            },
-            _ => asked,
+            | Op::EstaexZero => asked.srb = is_srb(deck, unit),
+            _ => {}
         }
+        asked
     }
 
     /// What the card asks at which the unit stands.

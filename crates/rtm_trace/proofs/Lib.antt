@@ -1,5 +1,6 @@
 pub mod Front
 pub mod FirstLine
+pub mod Feeds
 pub mod Products
 pub mod Cuts
 pub mod Numbers

@@ -2,17 +2,16 @@
 use Rattle.std.proofs.Common.{◌≡◌, ℕ, zero, suc, ◌^◌, ◌<◌, ◌≤◌, List, [], ◌∷◌, ◌++◌, length, Option, Some, None, refl, sym, ap, subst, ◌∙◌, arith}
 use Rattle.std.specs.Prelude.{IfSome, IsTrue, codes, decimal, slice_index_or, slice_set}
 use Rattle.std.specs.List.{AllByRecursion}
-use Rattle.std.proofs.lemmas.List.{append_assoc, append_cancel_left}
+use Rattle.std.proofs.lemmas.List.{append_assoc}
 use Rattle.rtm_items.specs.View.{DeckView}
 use Rattle.rtm_items.specs.WellFormed.{is_well_formed}
 use Rattle.rtm_model.specs.declared.entry.Entry.{Entry}
 use Rattle.rtm_model.specs.declared.entry.What.{What}
-use Rattle.rtm_model.specs.Fits.{Fits}
 use Rattle.rtm_trace.specs.declared.known.Known.{Known}
 use Rattle.rtm_trace.specs.Known.{AreKnown, IsBehindUnit, IsKnown, IsSaid, index_part, unit_part, what_part}
 use Rattle.rtm_trace.specs.Reading.{entry_on}
 use Rattle.rtm_trace.specs.Text.{entry_text, line_text, unit_text, what_text}
-use Rattle.rtm_trace.proofs.Confirmed.{entry_found, found_entry}
+use Rattle.rtm_trace.proofs.Confirmed.{found_entry}
 
 -- what is at a place was read
 pub known_at : (d : DeckView) (places : List (Option Known)) (i : ℕ) (known : Known) → AreKnown d places → slice_index_or places i None ≡ Some known
@@ -45,15 +44,3 @@ known_line d n u line behind rest what w small is unit said =
     let whole : line ≡ line_text d n e =
     is ∙ ap (λ (t : List ℕ). index_part n ++ t) (unit.1 ∙ ap (λ (t : List ℕ). unit_part d u ++ t) said.text) ∙ parts_are d n u what in
     ap (entry_on d n) whole ∙ found_entry d w n e small (record { unit = unit.0; what = said.fit })
-
--- what a line says that was read is known from then on
-pub read_line : (d : DeckView) (n u : ℕ) (line behind rest : List ℕ) (e : Entry) → line ≡ index_part n ++ behind → IsBehindUnit d behind u rest → e.unit ≡ u
-    → entry_on d n line ≡ Some e → IsSaid d rest e.what
-read_line d n u line behind rest e is unit same found =
-    let own = entry_found d n line e found in
-    let both : index_part n ++ (unit_part d u ++ rest) ≡ index_part n ++ (unit_part d e.unit ++ what_part d e.what) =
-    ap (λ (t : List ℕ). index_part n ++ t) (sym unit.1) ∙ sym is ∙ own.1 ∙ sym (parts_are d n e.unit e.what) in
-    let units : unit_part d u ++ rest ≡ unit_part d u ++ what_part d e.what =
-    append_cancel_left (index_part n) (unit_part d u ++ rest) (unit_part d e.unit ++ what_part d e.what) both
-    ∙ ap (λ (v : ℕ). unit_part d v ++ what_part d e.what) same in
-    record { fit = Fits.what own.0; text = append_cancel_left (unit_part d u) rest (what_part d e.what) units }

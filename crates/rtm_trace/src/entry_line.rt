@@ -301,7 +301,8 @@ fn said_as(names: &Names, count: u16, form: Form, line: &[u8]) -> Option<What>
     }
 }
 
-fn what_in(names: &Names, count: u16, line: &[u8]) -> Option<What>
+/// What may stand behind the unit of a line.
+pub(crate) fn what_in(names: &Names, count: u16, line: &[u8]) -> Option<What>
     ensures { result ≡ what_in names.now count line.now }
 {
     let (word, rest) = cut_word(line);

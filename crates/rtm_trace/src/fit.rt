@@ -30,7 +30,8 @@ fn verdict_fits(deck: &Deck, verdict: Verdict) -> bool
     }
 }
 
-fn what_fits(deck: &Deck, what: What) -> bool
+/// Whether each number of what an entry says names what is there in the deck.
+pub(crate) fn what_fits(deck: &Deck, what: What) -> bool
     ensures { result ≡ what_fits deck.now what }
 {
     match what {

@@ -22,20 +22,22 @@ pub(crate) struct Known<'a> {
 }
 
 /// How many are remembered.
-const PLACES: usize = 64;
+const PLACES: usize = 256;
 
 /// What was read lately, each at the place that its bytes give.
 pub(crate) type Places<'a> = [Option<Known<'a>>; PLACES];
 
-// The place of such bytes. Any would do; this one tells most lines of a loop apart.
-fn place_of(bytes: &[u8]) -> usize
-    ensures { result < 64 }
+/// The place of such bytes. Any would do; this one is quickly had, and tells most lines of a loop apart.
+pub(crate) fn place_of(bytes: &[u8]) -> usize
+    ensures { result < 256 }
 {
-    let mut sum = 0u64;
+    let mut sum = 0u32;
+    let mut weight = 0u32;
     for byte in bytes {
-        sum = sum.wrapping_mul(31).wrapping_add(u64::from(*byte));
+        sum = sum.wrapping_add(u32::from(*byte).wrapping_mul(weight));
+        weight = weight.wrapping_add(1);
     }
-    (sum % PLACES as u64) as usize
+    (sum % PLACES as u32) as usize
 }
 
 /// Nothing is remembered.
@@ -45,12 +47,13 @@ pub(crate) fn no_places<'a>() -> Places<'a>
     [None; PLACES]
 }
 
-/// What these bytes say, if they were read lately.
-pub(crate) fn recall(places: &Places<'_>, bytes: &[u8]) -> Option<What>
+/// What these bytes say, if they were read lately and are remembered at that place.
+pub(crate) fn recall(places: &Places<'_>, place: usize, bytes: &[u8]) -> Option<What>
+    requires { place < 256 }
     ensures { (d : DeckView) → AreKnown d places.now → IfSome result (IsSaid d bytes.now) }
 {
-    let place = places[place_of(bytes)];
-    let known = place?;
+    let found = places[place];
+    let known = found?;
     if known.bytes == bytes {
         Some(known.what)
     } else {
@@ -58,12 +61,13 @@ pub(crate) fn recall(places: &Places<'_>, bytes: &[u8]) -> Option<What>
     }
 }
 
-/// Remembers what these bytes say, in the place of others.
+/// Remembers at that place what these bytes say.
 #[tactic(auto, using(crate::proofs::Remembered::all_set))]
-pub(crate) fn remember<'a>(places: &mut Places<'a>, bytes: &'a [u8], what: What)
+pub(crate) fn remember<'a>(places: &mut Places<'a>, place: usize, bytes: &'a [u8], what: What)
+    requires { place < 256 }
     ensures { (d : DeckView) → AreKnown d places.old → IsSaid d bytes.now what → AreKnown d places.new }
 {
-    places[place_of(bytes)] = Some(Known { bytes, what });
+    places[place] = Some(Known { bytes, what });
 }
 
 // What stands behind that text, where the line begins with it.
@@ -104,22 +108,18 @@ fn behind_unit<'a>(deck: &Deck, unit: u16, line: &'a [u8]) -> Option<&'a [u8]>
     behind(rest, b" ")
 }
 
-/// The unit that the line begins with, and what stands behind it and its blank. The one that was met last is tried first, and
-/// then the one after it, before the names are searched.
+/// The unit that the line begins with, and what stands behind it and its blank. The guessed one is tried before the names are
+/// searched.
 pub(crate) fn cut_unit<'a>(
     deck: &Deck,
     names: &Names,
-    last: u16,
+    guess: u16,
     line: &'a [u8],
 ) -> Option<(u16, &'a [u8])>
     ensures { IfSome result (λ found. IsBehindUnit deck.now line.now found.0 found.1.now) }
 {
-    if let Some(rest) = behind_unit(deck, last, line) {
-        return Some((last, rest));
-    }
-    let next = last.saturating_add(1);
-    if let Some(rest) = behind_unit(deck, next, line) {
-        return Some((next, rest));
+    if let Some(rest) = behind_unit(deck, guess, line) {
+        return Some((guess, rest));
     }
     let (word, _) = cut_word(line);
     let unit = unit_in(names, deck.unit_count(), word)?;

@@ -1,23 +1,25 @@
 //! Reading a trace.
 
-ghost use Rattle.std.specs.Prelude.{◌≡◌, ◌+◌, ◌≤◌, ◌<◌, [], ◌∷◌, length, take, drop, IfOk, IfErr, ℕ};
+ghost use Rattle.std.specs.Prelude.{◌≡◌, ◌+◌, ◌≤◌, ◌<◌, [], ◌∷◌, length, take, drop, IfOk, IfErr, IfSome, ℕ};
 ghost use Rattle.rtm_trace.specs.Answer.{IsFaultOf, IsThatTrace, IsThatLine, Gives};
-ghost use Rattle.rtm_trace.specs.Known.{AreKnown};
+ghost use Rattle.rtm_trace.specs.Known.{AreKnown, IsSaid};
 ghost use Rattle.rtm_trace.specs.Lines.{IsTraceOf, IsFirstBadLine, text_lines};
 ghost use Rattle.rtm_trace.specs.Reading.{confirmed, entry_on, ended, read_on, read_lines};
 ghost use Rattle.rtm_trace.specs.View.{TraceView};
 ghost use Rattle.rtm_trace.specs.Words.{names_of, first_of, after_of};
 
-use crate::entry_line::line_in;
+use crate::entry_line::{line_in, what_in};
 use crate::fault::TraceFault;
-use crate::fit::fits;
-use crate::known::{Places, behind_index, cut_unit, no_places, recall, remember};
+use crate::fit::{fits, what_fits};
+use crate::known::{Places, behind_index, cut_unit, no_places, place_of, recall, remember};
 use crate::names::Names;
-use crate::text::push_line;
+use crate::push;
+use crate::text::{push_line, push_what};
 use crate::word::end_in;
+use memchr::memchr;
 use rtm_codes::NoMemory;
 use rtm_items::Deck;
-use rtm_model::{End, Entry};
+use rtm_model::{End, Entry, What};
 use std::alloc::Global;
 use std::marker::Model;
 
@@ -75,13 +77,72 @@ fn entry_on(
     }
 }
 
-// The same, of a line that says what one did that was read lately, or else read anew and remembered. Last is the unit of the
-// line before.
+// What these bytes say behind the unit of a line, where it fits and they are its text.
+fn said(
+    deck: &Deck,
+    bytes: &[u8],
+    what: What,
+    text: &mut Vec<u8>,
+) -> Result<Option<What>, NoMemory>
+    ensures { IfOk result (λ found. IfSome found (IsSaid deck.now bytes.now)) }
+{
+    if !what_fits(deck, what) {
+        return Ok(None);
+    }
+    text.clear();
+    push_what(text, deck, what)?;
+    push::bytes(text, b"\n")?;
+    Ok(if text.as_slice() == bytes {
+        Some(what)
+    } else {
+        None
+    })
+}
+
+fn read_what(
+    deck: &Deck,
+    names: &Names,
+    bytes: &[u8],
+    text: &mut Vec<u8>,
+) -> Result<Option<What>, NoMemory>
+    ensures { IfOk result (λ found. IfSome found (IsSaid deck.now bytes.now)) }
+{
+    match what_in(names, deck.unit_count(), bytes) {
+        None => Ok(None),
+        Some(what) => said(deck, bytes, what, text),
+    }
+}
+
+// What these bytes say behind the unit of a line: what they said lately, or else read and remembered.
 fn known_or_read<'a>(
     deck: &Deck,
     names: &Names,
+    bytes: &'a [u8],
+    text: &mut Vec<u8>,
+    places: &mut Places<'a>,
+) -> Result<Option<What>, NoMemory>
+    requires { AreKnown deck.now places.old }
+    ensures said { IfOk result (λ found. IfSome found (IsSaid deck.now bytes.now)) }
+    ensures known { AreKnown deck.now places.new }
+{
+    let place = place_of(bytes);
+    if let Some(what) = recall(places, place, bytes) {
+        return Ok(Some(what));
+    }
+    let found = read_what(deck, names, bytes, text)?;
+    if let Some(what) = found {
+        remember(places, place, bytes, what);
+    }
+    Ok(found)
+}
+
+// The entry of that index whose line it is. It is read part by part, and whole only where it is none that way. The guess is
+// the unit that it may be of.
+fn entry_by_parts<'a>(
+    deck: &Deck,
+    names: &Names,
     index: u64,
-    last: u16,
+    guess: u16,
     line: &'a [u8],
     text: &mut Vec<u8>,
     places: &mut Places<'a>,
@@ -96,35 +157,28 @@ fn known_or_read<'a>(
         None => return entry_on(deck, names, index, line, text),
         Some(behind) => behind,
     };
-    let (unit, rest) = match cut_unit(deck, names, last, behind) {
+    let (unit, rest) = match cut_unit(deck, names, guess, behind) {
         None => return entry_on(deck, names, index, line, text),
         Some(found) => found,
     };
-    if let Some(what) = recall(places, rest) {
-        return Ok(Some(Entry { unit, what }));
+    match known_or_read(deck, names, rest, text, places)? {
+        None => entry_on(deck, names, index, line, text),
+        Some(what) => Ok(Some(Entry { unit, what })),
     }
-    let found = entry_on(deck, names, index, line, text)?;
-    if let Some(entry) = found {
-        if entry.unit == unit {
-            remember(places, rest, entry.what);
-        }
-    }
-    Ok(found)
 }
 
 // How many bytes the first line has, with its line feed.
+#[tactic(auto, using(crate::proofs::Feeds::of_none, crate::proofs::Feeds::of_some))]
 fn line_len(text: &[u8]) -> usize
     ensures within { result ≤ length text.now }
     ensures some { 0 < length text.now → 0 < result }
     ensures first { take result text.now ≡ first_of text.now }
     ensures after { drop result text.now ≡ after_of text.now }
 {
-    for (i, byte) in text.iter().enumerate() {
-        if *byte == b'\n' {
-            return i + 1;
-        }
+    match memchr(b'\n', text) {
+        None => text.len(),
+        Some(feed) => feed + 1,
     }
-    text.len()
 }
 
 // Cuts off the first line, with its line feed.
@@ -162,6 +216,15 @@ fn bad_line(count: usize) -> TraceFault
     }
 }
 
+// The unit of the line behind one of `unit`, where the line before was of `last`: in turns the one after it, else the same.
+fn guessed(last: u16, unit: u16) -> u16 {
+    if unit == last.saturating_add(1) {
+        unit.saturating_add(1)
+    } else {
+        unit
+    }
+}
+
 // Reads the lines behind the first.
 fn read_on(alloc: Global, deck: &Deck, names: &Names, lines: &[u8]) -> Result<Trace, TraceFault>
     requires names { names.now ≡ names_of deck.now }
@@ -172,6 +235,7 @@ fn read_on(alloc: Global, deck: &Deck, names: &Names, lines: &[u8]) -> Result<Tr
     let mut text = Vec::new(alloc);
     let mut places = no_places();
     let mut last = 0;
+    let mut guess = 0;
     let mut rest = lines;
     'lines: while !rest.is_empty() {
         let (line, behind) = cut_line(rest);
@@ -179,9 +243,10 @@ fn read_on(alloc: Global, deck: &Deck, names: &Names, lines: &[u8]) -> Result<Tr
             return ended(entries, end, behind);
         }
         let index = entries.len() as u64;
-        match known_or_read(deck, names, index, last, line, &mut text, &mut places)? {
+        match entry_by_parts(deck, names, index, guess, line, &mut text, &mut places)? {
             None => return Err(bad_line(entries.len())),
             Some(entry) => {
+                guess = guessed(last, entry.unit);
                 last = entry.unit;
                 entries.push(entry)?;
             }

@@ -271,8 +271,8 @@ fn push_purge(out: &mut Vec<u8>, deck: &Deck, unit: u16) -> Result<(), NoMemory>
     push_unit(out, deck, unit)
 }
 
-// What an entry says.
-fn push_what(out: &mut Vec<u8>, deck: &Deck, what: What) -> Result<(), NoMemory>
+/// What an entry says.
+pub(crate) fn push_what(out: &mut Vec<u8>, deck: &Deck, what: What) -> Result<(), NoMemory>
     requires { WhatFits deck.now what }
     ensures { OnOk result (out.new.items ≡ out.old.items ++ what_text deck.now what) }
 {

@@ -8,4 +8,4 @@ pub returns-then-eq : goal.returns-then-eq
 returns-then-eq c = λ d all.
     let known = c.in_ok-known.known in
     let same : known.bytes.now ≡ c.args.bytes.now = (bytes_eq-Decides known.bytes.now c.args.bytes.now).0 (sym c.if-eq.ensures) in
-    subst (λ (bytes : List ℕ). IsSaid d bytes known.what) same (known_at d c.args.places.now c.place_of.result known all c.in_ok-known.was)
+    subst (λ (bytes : List ℕ). IsSaid d bytes known.what) same (known_at d c.args.places.now c.args.place known all c.in_ok-known.was)
