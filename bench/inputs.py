@@ -88,6 +88,16 @@ def loop_and_waiters():
     return loop(62)
 
 
+def loop_and_events():
+    """A loop with 62 others that wait for an event, while all the other events are posted."""
+    cards = [" REGION LIMIT=100000", "MAIN PROG"]
+    cards += [" POST %d" % i for i in range(1, 256)]
+    cards += [" ATTACHX T%d" % i for i in range(1, 63)]
+    cards += ["TOP NOP", " B TOP", " PEND", "WAITER PROG", " WAIT 0", " PEND", "JOB TASK PGM=MAIN"]
+    cards += ["T%d TASK PGM=WAITER" % i for i in range(1, 63)]
+    return ("\n".join(cards + [" END"]) + "\n").encode()
+
+
 def nothing():
     """What a load is given."""
     return b""
@@ -96,7 +106,7 @@ def nothing():
 # By the words that each is timed with. An input of `verify` is a deck of `seq`, behind which its trace is put.
 INPUTS = {
     "scan": (many_cards, comments, one_long_comment, too_long),
-    "seq": (many_tasks, short_loop, loop, loop_and_waiters),
+    "seq": (many_tasks, short_loop, loop, loop_and_waiters, loop_and_events),
     "verify": (many_tasks, loop),
     "load 60": (nothing,),
 }

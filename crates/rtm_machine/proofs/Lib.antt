@@ -6,4 +6,4 @@ pub mod Carrying
 pub mod Applying
 pub mod Arriving
 pub mod Asked
-pub mod Calm
+pub mod Normal

@@ -14,7 +14,7 @@ use Rattle.rtm_model.specs.Ending.{next_manager, next_release}
 use Rattle.rtm_model.specs.NextEntry.{is_outermost}
 use Rattle.rtm_model.specs.Outside.{card_fate, is_crowded, is_found, is_own, is_unborn, op_here, related_fate, step_fate, whose}
 use Rattle.rtm_model.specs.Tasks.{Tree, has_subtask}
-use Rattle.rtm_unit.specs.Calm.{may_wait}
+use Rattle.rtm_unit.specs.Normal.{may_wait}
 use Rattle.rtm_model.specs.World.{Core, UnitOfWork, World, core_at, is_srb, master, related_to, unit_at}
 
 abbrev pub nothing_asked : Around

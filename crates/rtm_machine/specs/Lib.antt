@@ -3,3 +3,4 @@ pub mod Posting
 pub mod Beyond
 pub mod Follows
 pub mod Asked
+pub mod Idle

@@ -3,11 +3,12 @@
 ghost use Rattle.std.specs.Prelude.{◌≡◌, None, true, ◌<◌, ◌≤◌, ◌^◌, length, position, slice_get, not};
 ghost use Rattle.rtm_model.specs.Arrivals.{goes_on};
 ghost use Rattle.rtm_model.specs.NextEntry.{next, next_of_unit, next_of_master, next_unit, next_master};
-ghost use Rattle.rtm_model.specs.Outside.{around};
+ghost use Rattle.rtm_model.specs.Outside.{around, op_here};
 ghost use Rattle.rtm_model.specs.Tasks.{Tree, is_living};
 ghost use Rattle.rtm_machine.specs.Asked.{is_ending, waits_at};
+ghost use Rattle.rtm_machine.specs.Idle.{is_idle, waits, waits_by};
 ghost use Rattle.rtm_machine.specs.Shape.{IsShaped};
-ghost use Rattle.rtm_unit.specs.Calm.{is_calm};
+ghost use Rattle.rtm_unit.specs.Normal.{runs_normally};
 ghost use Rattle.rtm_model.specs.World.{World, core_at, lives_in, master, unit_at};
 
 use crate::around::{is_ending, is_srb};
@@ -52,11 +53,11 @@ impl Machine {
     }
 
     /// The next entry of a unit that goes on with its card: the cards that are met most need no look at the rest.
-    #[tactic(auto, using(crate::proofs::Calm::executes_nop, crate::proofs::Calm::executes_branch))]
+    #[tactic(auto, using(crate::proofs::Normal::executes_nop, crate::proofs::Normal::executes_branch))]
     #[inline(always)]
     fn next_by_card(&self, deck: &Deck, unit: u16, state: &UnitState) -> Option<What>
         requires state { state.now ≡ unit_at unit self.now.units }
-        requires calm { is_calm state.now ≡ true }
+        requires normal { runs_normally state.now ≡ true }
         ensures { result ≡ next_unit deck.now (core_at unit self.now) (around deck.now self.now unit) }
     {
         match state.card_here(deck, &Op::Return) {
@@ -67,12 +68,13 @@ impl Machine {
     }
 
     /// Whether a unit that goes on with its card waits there.
-    #[tactic(auto, using(crate::proofs::Calm::waits_for_event, crate::proofs::Calm::waits_for_task))]
+    #[tactic(auto, using(crate::proofs::Normal::waits_for_event, crate::proofs::Normal::waits_for_task))]
     #[inline(always)]
     fn waits_at_its_card(&self, deck: &Deck, unit: u16, state: &UnitState) -> bool
         requires state { state.now ≡ unit_at unit self.now.units }
-        requires calm { is_calm state.now ≡ true }
-        ensures { result ≡ true → next_unit deck.now (core_at unit self.now) (around deck.now self.now unit) ≡ None }
+        requires normal { runs_normally state.now ≡ true }
+        ensures value { result ≡ waits_by deck.now self.now unit (op_here deck.now state.now.core) }
+        ensures none { result ≡ true → next_unit deck.now (core_at unit self.now) (around deck.now self.now unit) ≡ None }
     {
         match state.card_here(deck, &Op::Return) {
             Op::Wait { event } => has_to_wait(deck, unit, state, self.tree.event_posted(*event)),
@@ -84,18 +86,20 @@ impl Machine {
     /// Whether a unit that lives waits at its card.
     #[inline(always)]
     fn waits(&self, deck: &Deck, unit: u16) -> bool
-        ensures { result ≡ true → next_unit deck.now (core_at unit self.now) (around deck.now self.now unit) ≡ None }
+        ensures value { result ≡ waits deck.now self.now unit }
+        ensures none { result ≡ true → next_unit deck.now (core_at unit self.now) (around deck.now self.now unit) ≡ None }
     {
         match self.units.get(unit as usize) {
             None => false,
-            Some(state) => state.is_calm() && self.waits_at_its_card(deck, unit, state),
+            Some(state) => state.runs_normally() && self.waits_at_its_card(deck, unit, state),
         }
     }
 
     /// Whether it is seen at a glance that the unit of that number has no next entry: it doesn't live, it waits at its card, or
-    /// it isn't its time. Who tries units in turns skips it so; of others `next` has to be asked.
+    /// memory end decides. Who tries units in turns skips it so; of others `next` has to be asked.
     pub fn is_idle(&self, deck: &Deck, unit: u16) -> bool
-        ensures { result ≡ true → next deck.now self.now unit ≡ None }
+        ensures value { result ≡ is_idle deck.now self.now unit }
+        ensures none { result ≡ true → next deck.now self.now unit ≡ None }
     {
         if unit == deck.unit_count() {
             return self.memory_end.is_none();
@@ -110,7 +114,7 @@ impl Machine {
         match self.units.get(unit as usize) {
             None => None,
             Some(state) => {
-                if state.is_calm() {
+                if state.runs_normally() {
                     self.next_by_card(deck, unit, state)
                 } else {
                     self.next_by_case(deck, unit, state)

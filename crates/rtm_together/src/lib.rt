@@ -3,8 +3,8 @@
 #![tactic(auto)]
 
 #[cfg(test)]
+mod misspelling_tests;
+#[cfg(test)]
 mod tests;
 #[cfg(test)]
 mod trace_tests;
-#[cfg(test)]
-mod misspelling_tests;

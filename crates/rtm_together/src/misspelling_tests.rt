@@ -164,9 +164,7 @@ enum Change {
 }
 
 fn lists(table: &[(usize, &str)], at: usize, byte: u8) -> bool {
-    table
-        .iter()
-        .any(|(index, bytes)| *index == at && bytes.as_bytes().contains(&byte))
+    table.iter().any(|(index, bytes)| *index == at && bytes.as_bytes().contains(&byte))
 }
 
 // The number of the bad line, the format's line being the first, or none where the change makes a right line.
@@ -231,11 +229,25 @@ fn is_answered(
     assert!(rt; text.len() <= 1000);
     match read_trace(alloc, deck, &text) {
         Ok(trace) => {
-            assert_eq!(rt; wanted(row, at, change), None, "{}, {at}: {change:?}", row.line);
-            assert!(rt; trace_text(alloc, deck, &trace.entries, trace.end)? == text, "{}, {at}: {change:?}", row.line);
+            assert_eq!(rt;
+                wanted(row, at, change),
+                None,
+                "{}, {at}: {change:?}",
+                row.line
+            );
+            assert!(rt;
+                trace_text(alloc, deck, &trace.entries, trace.end)? == text,
+                "{}, {at}: {change:?}",
+                row.line
+            );
         }
         Err(TraceFault::BadLine { line }) => {
-            assert_eq!(rt; wanted(row, at, change), Some(line), "{}, {at}: {change:?}", row.line);
+            assert_eq!(rt;
+                wanted(row, at, change),
+                Some(line),
+                "{}, {at}: {change:?}",
+                row.line
+            );
         }
         Err(TraceFault::Memory) => return Err(Fail::from(AllocError)),
     }

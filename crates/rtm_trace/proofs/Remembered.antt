@@ -1,6 +1,6 @@
 -- What is remembered of lines that were read.
-use Rattle.std.proofs.Common.{◌≡◌, ℕ, zero, suc, ◌^◌, ◌<◌, ◌≤◌, List, [], ◌∷◌, ◌++◌, length, Option, Some, None, refl, sym, ap, subst, ◌∙◌, arith}
-use Rattle.std.specs.Prelude.{IfSome, IsTrue, codes, decimal, slice_index_or, slice_set}
+use Rattle.std.proofs.Common.{◌≡◌, ℕ, zero, suc, ◌^◌, ◌<◌, List, [], ◌∷◌, ◌++◌, Option, Some, None, sym, ap, subst, ◌∙◌}
+use Rattle.std.specs.Prelude.{IsTrue, codes, slice_index_or, slice_set}
 use Rattle.std.specs.List.{AllByRecursion}
 use Rattle.std.proofs.lemmas.List.{append_assoc}
 use Rattle.rtm_items.specs.View.{DeckView}
@@ -10,7 +10,7 @@ use Rattle.rtm_model.specs.declared.entry.What.{What}
 use Rattle.rtm_trace.specs.declared.known.Known.{Known}
 use Rattle.rtm_trace.specs.Known.{AreKnown, IsBehindUnit, IsKnown, IsSaid, index_part, unit_part, what_part}
 use Rattle.rtm_trace.specs.Reading.{entry_on}
-use Rattle.rtm_trace.specs.Text.{entry_text, line_text, unit_text, what_text}
+use Rattle.rtm_trace.specs.Text.{line_text, what_text}
 use Rattle.rtm_trace.proofs.Confirmed.{found_entry}
 
 -- what is at a place was read

@@ -78,12 +78,7 @@ fn entry_on(
 }
 
 // What these bytes say behind the unit of a line, where it fits and they are its text.
-fn said(
-    deck: &Deck,
-    bytes: &[u8],
-    what: What,
-    text: &mut Vec<u8>,
-) -> Result<Option<What>, NoMemory>
+fn said(deck: &Deck, bytes: &[u8], what: What, text: &mut Vec<u8>) -> Result<Option<What>, NoMemory>
     ensures { IfOk result (λ found. IfSome found (IsSaid deck.now bytes.now)) }
 {
     if !what_fits(deck, what) {

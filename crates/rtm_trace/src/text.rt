@@ -302,7 +302,7 @@ pub(crate) fn push_what(out: &mut Vec<u8>, deck: &Deck, what: What) -> Result<()
 }
 
 /// Puts the line of an entry without its index and its line feed: the unit, and what the entry says. The only error is
-/// want of memory.
+/// want of memory; a part may have been put then.
 pub fn push_entry(out: &mut Vec<u8>, deck: &Deck, entry: &Entry) -> Result<(), NoMemory>
     requires { Fits deck.now entry.now }
     ensures { OnOk result (out.new.items ≡ out.old.items ++ entry_text deck.now entry.now) }

@@ -1,2 +1,2 @@
 pub mod Applying
-pub mod Calm
+pub mod Normal

@@ -12,7 +12,7 @@ ghost use Rattle.rtm_model.specs.Blocks.{newest_block};
 ghost use Rattle.rtm_model.specs.declared.block.Block.{Block};
 ghost use Rattle.rtm_model.specs.declared.entry.What.TheVariants.{Exec};
 ghost use Rattle.rtm_unit.specs.Applying.{CanApplyTo};
-ghost use Rattle.rtm_unit.specs.Calm.{is_calm, may_wait};
+ghost use Rattle.rtm_unit.specs.Normal.{runs_normally, may_wait};
 
 use crate::control_blocks::ControlBlocks;
 use rtm_aborts::Pending;
@@ -89,8 +89,8 @@ impl UnitState {
     /// Whether the unit goes on with its card: no error is open in its innermost bracket, it hasn't begun to end, and no
     /// abort is pending.
     #[inline(always)]
-    pub fn is_calm(&self) -> bool
-        ensures { result ≡ is_calm self.now }
+    pub fn runs_normally(&self) -> bool
+        ensures { result ≡ runs_normally self.now }
     {
         !self.core.levels.error_here()
             && self.core.begun.is_none()

@@ -1,6 +1,6 @@
 -- Where no count of faults rose and memory isn't refused, the status is the one that is due.
-use Rattle.std.proofs.Common.{◌≡◌, ℕ, ◌<◌, ◌≤◌, ◌-◌, List, length, drop, Option, Some, None, refl, sym, ap, subst, ◌∙◌, inl, inr, arith, length-drop}
-use Rattle.std.specs.Prelude.{◌^◌, IsTrue, IfSome}
+use Rattle.std.proofs.Common.{◌≡◌, ℕ, ◌<◌, ◌≤◌, List, length, Option, Some, None, refl, sym, ap, subst, ◌∙◌, inl, inr, arith, length-drop}
+use Rattle.std.specs.Prelude.{◌^◌, IsTrue}
 use Rattle.std.proofs.lemmas.Bool.{cases_lt}
 use Rattle.rtm_cards.specs.Lines.{lines_of}
 use Rattle.rtm_items.specs.View.{DeckView}
@@ -21,7 +21,7 @@ use Rattle.rtmrun.specs.declared.request.Request.{Request}
 use Rattle.rtmrun.specs.declared.request.Request.TheVariants as requests
 use Rattle.rtmrun.specs.declared.outcome.Status.{Status}
 use Rattle.rtmrun.specs.declared.outcome.Status.TheVariants as status
-use Rattle.rtmrun.specs.Answer.{Call, IsAnswer, IsDue, IsRefusalOf, IsRunOf, Says}
+use Rattle.rtmrun.specs.Answer.{Call, IsAnswer, IsDue, IsRunOf, Says}
 use Rattle.rtmrun.specs.Due.{IsComplete, IsDueOf, IsDueStatus, IsReadOn, IsRefused, IsTried}
 use Rattle.rtmrun.specs.Run.{status_of}
 use Rattle.rtmrun.specs.Verified.{IsJudgement, IsOfTrace, IsVerified, faulted_part}
@@ -98,9 +98,10 @@ tried d t text status.Words j = absurd j
 
 traced : (d : DeckView) (bytes text : List ℕ) (s : Status) (t : TraceView) → IsTrue (is_well_formed d) → length bytes < 2 ^ 64 → IsTraceOf d bytes t
     → IsJudgement d t text s → IsReadOn d bytes s
-traced d bytes text s t w small is j =
-    (λ line bad. absurd (not_both d bytes t line w small is bad),
-    λ u other. subst (λ (x : TraceView). IsTried d x s) (one_trace d w bytes t u small is other) (tried d t text s j))
+traced d bytes text s t w small is j = (
+  λ line bad. absurd (not_both d bytes t line w small is bad),
+  λ u other. subst (λ (x : TraceView). IsTried d x s) (one_trace d w bytes t u small is other) (tried d t text s j),
+)
 
 read_on : (d : DeckView) (bytes text : List ℕ) (s : Status) → IsTrue (is_well_formed d) → length bytes < 2 ^ 64 → IsOfTrace d bytes text s → IsReadOn d bytes s
 read_on d bytes text status.Line w small a = (λ line bad. refl, λ t is. absurd (not_both d bytes t a.line w small is a.bad))
@@ -126,10 +127,11 @@ few_behind : (bytes : List ℕ) (d : DeckView) → DeckText (faulted_part bytes)
 few_behind bytes d h = omega (arith, few bytes d h, length-drop (front_in (lines_of bytes)) bytes)
 
 checked : (bytes text : List ℕ) (s : Status) → IsVerified bytes text s → IsDueOf requests.Verify bytes s
-checked bytes text s a =
-    (not_refused (faulted_part bytes) a.0 s a.1,
-    λ d spelled. subst (λ (x : DeckView). IsReadOn x (trace_part bytes) s) (one_deck (faulted_part bytes) a.0 d a.1 spelled)
-    (read_on a.0 (trace_part bytes) text s a.1.well_formed (few_behind bytes a.0 a.1) a.2))
+checked bytes text s a = (
+  not_refused (faulted_part bytes) a.0 s a.1,
+  λ d spelled. subst (λ (x : DeckView). IsReadOn x (trace_part bytes) s) (one_deck (faulted_part bytes) a.0 d a.1 spelled)
+      (read_on a.0 (trace_part bytes) text s a.1.well_formed (few_behind bytes a.0 a.1) a.2),
+)
 
 verified : (bytes text : List ℕ) (s : Status) → IsAnswer requests.Verify bytes text s → IsDueOf requests.Verify bytes s
 verified bytes text status.Deck a =

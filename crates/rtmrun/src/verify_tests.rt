@@ -206,7 +206,15 @@ fn traces_are_not_too_long(rt: HostRuntime) -> Result<(), Fail> {
         line.push_str("****************************************************************")?;
     }
     let trace = ["RTMTRACE 1\n", line.as_str()];
-    is_said(&rt, &["verify"], &[], ROW_1, &trace, Status::Deck, "DECK 8 TooLong\n")
+    is_said(
+        &rt,
+        &["verify"],
+        &[],
+        ROW_1,
+        &trace,
+        Status::Deck,
+        "DECK 8 TooLong\n",
+    )
 }
 
 // The source fails at its first call, but a load makes none.

@@ -6,8 +6,8 @@ use Rattle.rtm_model.specs.Levels.{error_here}
 use Rattle.rtm_model.specs.World.{Core, UnitOfWork}
 
 -- no error is open in its innermost bracket, it hasn't begun to end, and no abort is pending
-abbrev pub is_calm : UnitOfWork → Bool
-is_calm unit =
+abbrev pub runs_normally : UnitOfWork → Bool
+runs_normally unit =
     not (error_here (Core.levels unit.core)) && is_none (Core.begun unit.core) && is_none (first_abort unit.pending)
 
 -- in a task, WAIT and WAITT are no error of mode: no FRR lives, and no resource manager runs

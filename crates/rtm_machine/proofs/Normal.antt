@@ -23,7 +23,7 @@ use Rattle.rtm_model.specs.NextEntry.{carded, carded_at, carded_by, first_case, 
 use Rattle.rtm_model.specs.Outside.{around, is_found, op_here}
 use Rattle.rtm_model.specs.Tasks.{Tree, has_ended, is_posted, life_of}
 use Rattle.rtm_model.specs.World.{Core, UnitOfWork, World, core_at, is_srb, unit_at}
-use Rattle.rtm_unit.specs.Calm.{is_calm, may_wait}
+use Rattle.rtm_unit.specs.Normal.{runs_normally, may_wait}
 use Rattle.rtm_machine.specs.Asked.{waits_at}
 
 both : (a b : Bool) → (a && b) ≡ true → (a ≡ true) × (b ≡ true)
@@ -48,18 +48,18 @@ either_way true abort e = e
 either_way false abort e = refl
 
 -- it goes on with its card
-calm_by : (d : DeckView) (c : Core) (a : Around) → error_here c.levels ≡ false → is_none c.begun ≡ true → is_none a.abort ≡ true → next_unit d c a ≡ carded d c a
-calm_by d c a no_error not_begun no_abort =
+normal_by : (d : DeckView) (c : Core) (a : Around) → error_here c.levels ≡ false → is_none c.begun ≡ true → is_none a.abort ≡ true → next_unit d c a ≡ carded d c a
+normal_by d c a no_error not_begun no_abort =
     ap (λ (r : Option ErrorRecord). first_case c r (landing c a) (going_on d c a c.begun)) (absent (error_in c.levels) no_error)
     ∙ ap (λ (abort : Option Abort). first_case c None abort (going_on d c a c.begun)) (either_way (interruptible c) a.abort (none_there a.abort no_abort))
     ∙ ap (going_on d c a) (none_there c.begun not_begun)
 
-calm_next : (d : DeckView) (w : World) (u : ℕ) → is_calm (unit_at u w.units) ≡ true → next_unit d (core_at u w) (around d w u) ≡ carded d (core_at u w) (around d w u)
-calm_next d w u e =
+normal_next : (d : DeckView) (w : World) (u : ℕ) → runs_normally (unit_at u w.units) ≡ true → next_unit d (core_at u w) (around d w u) ≡ carded d (core_at u w) (around d w u)
+normal_next d w u e =
     let c = core_at u w in
     let ab = both (not (error_here c.levels) && is_none c.begun) (is_none (first_abort (UnitOfWork.pending (unit_at u w.units)))) e in
     let a = both (not (error_here c.levels)) (is_none c.begun) ab.0 in
-    calm_by d c (around d w u) (not_so (error_here c.levels) a.0) a.1 ab.1
+    normal_by d c (around d w u) (not_so (error_here c.levels) a.0) a.1 ab.1
 
 abbrev op_of : DeckView → Option Block → Op
 op_of d b = op_at d (Place.prog (place_or_none b)) (Place.op (place_or_none b))
@@ -76,13 +76,13 @@ branch_at : (d : DeckView) (c : Core) (a : Around) (b : Option Block) (label : N
 branch_at d c a None label e = refl
 branch_at d c a (Some block) label e = ap (λ (op : Op). carded_by d c a block.place (outcome c a op)) e
 
-pub executes_nop : (d : DeckView) (w : World) (u : ℕ) → is_calm (unit_at u w.units) ≡ true → op_here d (core_at u w) ≡ ops.Nop
+pub executes_nop : (d : DeckView) (w : World) (u : ℕ) → runs_normally (unit_at u w.units) ≡ true → op_here d (core_at u w) ≡ ops.Nop
     → next_unit d (core_at u w) (around d w u) ≡ option_map (λ block. Exec (Block.place block) 0) (newest_block (Core.blocks (core_at u w)))
-executes_nop d w u calm e = calm_next d w u calm ∙ nop_at d (core_at u w) (around d w u) (newest_block (Core.blocks (core_at u w))) e
+executes_nop d w u normal e = normal_next d w u normal ∙ nop_at d (core_at u w) (around d w u) (newest_block (Core.blocks (core_at u w))) e
 
-pub executes_branch : (d : DeckView) (w : World) (u : ℕ) (label : Name) → is_calm (unit_at u w.units) ≡ true → op_here d (core_at u w) ≡ ops.Branch label
+pub executes_branch : (d : DeckView) (w : World) (u : ℕ) (label : Name) → runs_normally (unit_at u w.units) ≡ true → op_here d (core_at u w) ≡ ops.Branch label
     → next_unit d (core_at u w) (around d w u) ≡ option_map (λ block. Exec (Block.place block) 0) (newest_block (Core.blocks (core_at u w)))
-executes_branch d w u label calm e = calm_next d w u calm ∙ branch_at d (core_at u w) (around d w u) (newest_block (Core.blocks (core_at u w))) label e
+executes_branch d w u label normal e = normal_next d w u normal ∙ branch_at d (core_at u w) (around d w u) (newest_block (Core.blocks (core_at u w))) label e
 
 -- ---- WAIT and WAITT
 no_mode : (srb frr manager routine : Bool) → srb ≡ false → frr ≡ false → manager ≡ false
@@ -108,24 +108,24 @@ task_at d c a (Some block) task e srb frr manager found =
     ∙ ap (λ (mode : Option Code). carded_by d c a block.place (outcome_by mode (waits_for a.found))) (no_mode a.srb (has_frr c.frrs) (in_manager c.levels) (not (recovers c.levels)) srb frr manager)
     ∙ ap (λ (there : Bool). carded_by d c a block.place (waits_for there)) found
 
-pub waits_for_event : (d : DeckView) (w : World) (u event : ℕ) → is_calm (unit_at u w.units) ≡ true → op_here d (core_at u w) ≡ ops.Wait event
+pub waits_for_event : (d : DeckView) (w : World) (u event : ℕ) → runs_normally (unit_at u w.units) ≡ true → op_here d (core_at u w) ≡ ops.Wait event
     → waits_at d u (core_at u w) (is_posted event (Tree.events w.tree)) ≡ true → next_unit d (core_at u w) (around d w u) ≡ None
-waits_for_event d w u event calm e waits =
+waits_for_event d w u event normal e waits =
     let c = core_at u w in
     let fs = both (not (is_posted event (Tree.events w.tree)) && not (is_srb d u)) (may_wait c) waits in
     let f = both (not (is_posted event (Tree.events w.tree))) (not (is_srb d u)) fs.0 in
     let m = both (not (has_frr c.frrs)) (not (in_manager c.levels)) fs.1 in
     let found : is_found w u (op_here d c) ≡ false = ap (is_found w u) e ∙ not_so _ f.0 in
-    calm_next d w u calm
+    normal_next d w u normal
     ∙ wait_at d c (around d w u) (newest_block c.blocks) event e (not_so (is_srb d u) f.1) (not_so (has_frr c.frrs) m.0) (not_so (in_manager c.levels) m.1) found
 
-pub waits_for_task : (d : DeckView) (w : World) (u task : ℕ) → is_calm (unit_at u w.units) ≡ true → op_here d (core_at u w) ≡ ops.WaitTask task
+pub waits_for_task : (d : DeckView) (w : World) (u task : ℕ) → runs_normally (unit_at u w.units) ≡ true → op_here d (core_at u w) ≡ ops.WaitTask task
     → waits_at d u (core_at u w) (has_ended (life_of task (Tree.lives w.tree))) ≡ true → next_unit d (core_at u w) (around d w u) ≡ None
-waits_for_task d w u task calm e waits =
+waits_for_task d w u task normal e waits =
     let c = core_at u w in
     let fs = both (not (has_ended (life_of task (Tree.lives w.tree))) && not (is_srb d u)) (may_wait c) waits in
     let f = both (not (has_ended (life_of task (Tree.lives w.tree)))) (not (is_srb d u)) fs.0 in
     let m = both (not (has_frr c.frrs)) (not (in_manager c.levels)) fs.1 in
     let found : is_found w u (op_here d c) ≡ false = ap (is_found w u) e ∙ not_so _ f.0 in
-    calm_next d w u calm
+    normal_next d w u normal
     ∙ task_at d c (around d w u) (newest_block c.blocks) task e (not_so (is_srb d u) f.1) (not_so (has_frr c.frrs) m.0) (not_so (in_manager c.levels) m.1) found
