@@ -16,6 +16,6 @@ rest_of : (n : ℕ) (bytes : List ℕ) → take (length bytes - n) (drop n bytes
 rest_of n bytes = take_all (length bytes - n) (drop n bytes) (omega (arith, length-drop n bytes))
 
 -- a front of the bytes, and then k of the rest
-pub Appends-take : (a b c : Option (List ℕ)) (n k : ℕ) (bytes : List ℕ) → Appends a b (take n bytes) → Appends b c (take k (take (length bytes - n) (drop n bytes))) → Appends a c (take (n + k) bytes)
-Appends-take a b c n k bytes first second =
+pub Appends_take : (a b c : Option (List ℕ)) (n k : ℕ) (bytes : List ℕ) → Appends a b (take n bytes) → Appends b c (take k (take (length bytes - n) (drop n bytes))) → Appends a c (take (n + k) bytes)
+Appends_take a b c n k bytes first second =
     rw take-add (Appends-append a b c (take n bytes) (take k (drop n bytes)) first (rw rest_of at second))

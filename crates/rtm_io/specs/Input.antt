@@ -24,12 +24,12 @@ pub record IsTooLong (limit : ℕ) (old new : Option (List ℕ)) (line : ℕ) : 
 
 -- what each fault says; the two counts are the source's faults before the call and now
 abbrev pub IsInFault : ℕ → Option (List ℕ) → Option (List ℕ) → ℕ → ℕ → InFault → Type 0
-IsInFault limit old new before now Memory = Unit {0}
+IsInFault limit old new before now Memory = now ≡ before
 IsInFault limit old new before now Read = HasRisen before now
-IsInFault limit old new before now (TooLong line) = IsTooLong limit old new line
+IsInFault limit old new before now (TooLong line) = IsTooLong limit old new line × (now ≡ before)
 
 -- what each fault of a single read says, for which there is no limit
 abbrev pub IsReadFault : ℕ → ℕ → InFault → Type 0
-IsReadFault before now Memory = Unit {0}
+IsReadFault before now Memory = now ≡ before
 IsReadFault before now Read = HasRisen before now
 IsReadFault before now (TooLong line) = ⊥

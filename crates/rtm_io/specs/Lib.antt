@@ -3,3 +3,4 @@ pub mod Input
 pub mod MemSink
 pub mod MemSource
 pub mod Stream
+pub mod StdStream

@@ -1,11 +1,11 @@
-ghost use Rattle.std.specs.Prelude.{◌≡◌, ◌+◌, ◌-◌, ◌^◌, ◌==◌, ◌<◌, ◌≤◌, ◌++◌, length, take, count_by, vec_len, IfOk, IfErr, OnErr};
+ghost use Rattle.std.specs.Prelude.{◌≡◌, ◌+◌, ◌-◌, ◌^◌, ◌==◌, ◌<◌, ◌≤◌, ◌++◌, length, take, count_by, vec_len, IfOk, IfErr, OnOk, OnErr};
 ghost use Rattle.rtm_io.specs.Stream.{Gives, TakesAtMost, IsAtEnd};
 ghost use Rattle.rtm_io.specs.Input.{GivesAll, IsInFault, IsReadFault};
 
 use crate::{Failed, Source};
 use std::alloc::{AllocError, Global};
 
-/// Why `read_all` gives no bytes.
+/// Why `read_all` gives no bytes (this profile).
 #[derive(Clone, Copy, Debug, PartialEq, Eq)]
 pub enum InFault {
     /// Memory was refused.
@@ -25,10 +25,12 @@ const CHUNK: usize = 65536;
 /// line in 32 bits (this profile).
 ///
 /// At `Memory` and `Read` the bytes taken so far are lost. They are a front of those that were left.
+/// A read that failed isn't tried again: its fault is the one that is told.
 pub fn read_all<S: Source>(alloc: Global, src: &mut S, limit: usize) -> Result<Vec<u8>, InFault>
     requires { limit ≤ 2 ^ 32 - 2 }
     ensures all { IfOk result (λ bytes.
         GivesAll limit (S.left src.old) (S.left src.new) bytes.items) }
+    ensures counted { OnOk result (S.faults src.new ≡ S.faults src.old) }
     ensures fault { IfErr result (IsInFault limit (S.left src.old) (S.left src.new)
         (S.faults src.old) (S.faults src.new)) }
 
@@ -73,6 +75,7 @@ fn read_on<S: Source>(
     ensures len { IfOk result (λ n. vec_len bytes.new ≡ vec_len bytes.old + n) }
     ensures given { IfOk result (λ n. Gives (S.left src.old) (S.left src.new) (take n chunk.new)) }
     ensures end { IfOk result (λ n. n ≡ 0 → IsAtEnd (S.left src.old)) }
+    ensures counted { OnOk result (S.faults src.new ≡ S.faults src.old) }
     ensures fault { IfErr result (IsReadFault (S.faults src.old) (S.faults src.new)) }
     ensures front { OnErr result (TakesAtMost most (S.left src.old) (S.left src.new)) }
     ensures later { S.faults src.old ≤ S.faults src.new }

@@ -6,14 +6,14 @@ use crate::{Failed, Sink};
 use std::alloc::Global;
 use std::marker::Model;
 
-/// Why no `MemSink` was made.
+/// Why no `MemSink` was made (this profile).
 #[derive(Clone, Copy, Debug, PartialEq, Eq)]
 pub enum RoomFault {
     /// Memory was refused.
     Memory,
 }
 
-/// A sink in memory with a stated room, of which stated calls fail.
+/// A sink in memory with a stated room, of which stated calls fail (this profile).
 #[derive(Debug, Drop)]
 pub struct MemSink {
     bytes: Vec<u8>,

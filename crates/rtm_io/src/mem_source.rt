@@ -5,7 +5,7 @@ use crate::calls::is_listed;
 use crate::{Failed, Source};
 use std::marker::Model;
 
-/// Bytes in memory as a source, of which stated calls fail.
+/// Bytes in memory as a source, of which stated calls fail (this profile).
 #[derive(Debug, Drop)]
 pub struct MemSource {
     bytes: Vec<u8>,

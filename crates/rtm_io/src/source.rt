@@ -1,4 +1,4 @@
-ghost use Rattle.std.specs.Prelude.{◌≡◌, ℕ, ◌<◌, ◌≤◌, List, length, take, drop, Option, IfOk, OnErr, IfSome};
+ghost use Rattle.std.specs.Prelude.{◌≡◌, ℕ, ◌<◌, ◌≤◌, List, length, take, Option, IfOk, OnErr};
 ghost use Rattle.rtm_io.specs.Faults.{HasCause};
 ghost use Rattle.rtm_io.specs.Stream.{Gives, IsAtEnd};
 
@@ -19,11 +19,5 @@ pub trait Source {
         ensures given { IfOk result (λ n. Gives (left self.old) (left self.new) (take n buf.new)) }
         ensures end { IfOk result (λ n. n ≡ 0 → 0 < length buf.old → IsAtEnd (left self.old)) }
         ensures failed { OnErr result (left self.new ≡ left self.old) }
-
-        // A source that tells its bytes writes no other into the buffer.
-        ensures rest_kept { IfSome (left self.old)
-            (λ _. IfOk result (λ n. drop n buf.new ≡ drop n buf.old)) }
-        ensures buffer_kept { IfSome (left self.old) (λ _. OnErr result (buf.new ≡ buf.old)) }
-
         ensures cause { HasCause (faults self.old) (faults self.new) result };
 }

@@ -1,7 +1,8 @@
-ghost use Rattle.std.specs.Prelude.{None, Some};
+ghost use Rattle.std.specs.Prelude.{◌≤◌, None, Some, IfOk};
 
 use super::*;
 use std::alloc::{AllocError, Global};
+use std::io;
 use std::process::Abort;
 use std::test::Fail;
 
@@ -49,6 +50,86 @@ impl Sink for Narrow {
     fn write(&mut self, piece: &[u8]) -> Result<usize, Failed> {
         let n = piece.len().min(2);
         self.0.write(&piece[..n])
+    }
+}
+
+// Gives two bytes a read, at most, and knows how many each of its first eight reads gave.
+#[derive(Drop)]
+struct WatchedSource {
+    source: MemSource,
+    given: [usize; 8],
+    calls: usize,
+}
+
+impl Source for WatchedSource {
+    ghost left = { λ _. None };
+
+    ghost faults = { λ s. s.source.faults };
+
+    fn read(&mut self, buf: &mut [u8]) -> Result<usize, Failed> {
+        let most = buf.len().min(2);
+        let answer = self.source.read(&mut buf[..most]);
+        if let (Some(place), Ok(n)) = (self.given.get_mut(self.calls), answer) {
+            *place = n;
+        }
+        self.calls = self.calls.saturating_add(1);
+        answer
+    }
+}
+
+// Takes two bytes a write, at most, and knows how long each of its first eight pieces was.
+#[derive(Drop)]
+struct WatchedSink {
+    sink: MemSink,
+    pieces: [usize; 8],
+    calls: usize,
+}
+
+impl Sink for WatchedSink {
+    ghost written = { λ s. Some s.sink.written };
+
+    ghost faults = { λ s. s.sink.faults };
+
+    fn write(&mut self, piece: &[u8]) -> Result<usize, Failed> {
+        if let Some(place) = self.pieces.get_mut(self.calls) {
+            *place = piece.len();
+        }
+        self.calls = self.calls.saturating_add(1);
+        let n = piece.len().min(2);
+        self.sink.write(&piece[..n])
+    }
+}
+
+// A stream of std whose first call is interrupted, the second moves two bytes, and the rest none.
+#[derive(Drop)]
+struct Stutter(u32);
+
+impl Stutter {
+    fn answer(&mut self, len: usize) -> io::Result<usize>
+        ensures { IfOk result (λ n. n ≤ len) }
+    {
+        self.0 = self.0.saturating_add(1);
+        match self.0 {
+            1 => Err(io::ErrorKind::Interrupted.into()),
+            2 => Ok(len.min(2)),
+            _ => Ok(0),
+        }
+    }
+}
+
+impl io::Read for Stutter {
+    fn read(&mut self, buf: &mut [u8]) -> io::Result<usize> {
+        self.answer(buf.len())
+    }
+}
+
+impl io::Write for Stutter {
+    fn write(&mut self, buf: &[u8]) -> io::Result<usize> {
+        self.answer(buf.len())
+    }
+
+    fn flush(&mut self) -> io::Result<()> {
+        Ok(())
     }
 }
 
@@ -126,6 +207,35 @@ fn a_failing_read_is_told(rt: HostRuntime) -> Result<(), Fail> {
     Ok(())
 }
 
+// Bytes, a limit, and how many bytes each read gives, two at most.
+type Reads = (&'static [u8], usize, &'static [usize]);
+
+// The last read alone gives none, and nothing is read after it, nor after a byte past the limit.
+#[test]
+fn each_read_but_the_last_gives_a_byte(rt: HostRuntime) -> Result<(), Fail> {
+    let table: [Reads; 7] = [
+        (b"", 5, &[0]),
+        (b"", 0, &[0]),
+        (b"1", 5, &[1, 0]),
+        (b"12345", 5, &[2, 2, 1, 0]),
+        (b"1234", 5, &[2, 2, 0]),
+        (b"12345", 4, &[2, 2, 1]),
+        (b"12345", 3, &[2, 2]),
+    ];
+    for (bytes, limit, given) in table {
+        let mut src = WatchedSource {
+            source: source(rt.alloc(), bytes, &[])?,
+            given: [0; 8],
+            calls: 0,
+        };
+        let is_whole = read_all(rt.alloc(), &mut src, limit).is_ok();
+        assert_eq!(rt; is_whole, bytes.len() <= limit);
+        assert_eq!(rt; src.calls, given.len(), "within {limit}");
+        assert!(rt; src.given.starts_with(given), "within {limit}");
+    }
+    Ok(())
+}
+
 // Reads a source of so many bytes.
 fn reads_long(rt: &impl Abort, alloc: Global, len: u32) -> Result<(), Fail> {
     let long = vec![in alloc; b'x'; len as usize]?;
@@ -179,11 +289,25 @@ fn writes_all_or_a_prefix(rt: HostRuntime) -> Result<(), Fail> {
     Ok(())
 }
 
+// Each call is given all that isn't written yet, and no bytes are written by no call.
 #[test]
-fn no_bytes_are_written_by_no_call(rt: HostRuntime) -> Result<(), Fail> {
-    let mut sink = sink(rt.alloc(), 0, &[0])?;
-    assert_eq!(rt; write_all(&mut sink, b""), Ok(()));
-    assert_eq!(rt; sink.faults(), 0);
+fn no_empty_piece_is_written(rt: HostRuntime) -> Result<(), Fail> {
+    let table: [(&[u8], &[usize]); 4] = [
+        (b"", &[]),
+        (b"1", &[1]),
+        (b"1234", &[4, 2]),
+        (b"12345", &[5, 3, 1]),
+    ];
+    for (bytes, pieces) in table {
+        let mut out = WatchedSink {
+            sink: sink(rt.alloc(), bytes.len(), &[])?,
+            pieces: [0; 8],
+            calls: 0,
+        };
+        assert_eq!(rt; write_all(&mut out, bytes), Ok(()));
+        assert_eq!(rt; out.calls, pieces.len());
+        assert!(rt; out.pieces.starts_with(pieces));
+    }
     Ok(())
 }
 
@@ -237,4 +361,21 @@ fn standard_output_takes_a_text(rt: HostRuntime) {
     let mut sink = StdSink::over(rt.stdout());
     assert_eq!(rt; write_all(&mut sink, b"a line\n"), Ok(()));
     assert_eq!(rt; sink.faults(), 0);
+}
+
+// An interruption is told at once, and so is a write that takes nothing. At the end a read gives 0.
+#[test]
+fn each_error_of_the_system_is_told(rt: HostRuntime) {
+    let mut src = StdSource::over(Stutter(0));
+    let mut buf = [0; 3];
+    for (answer, faults) in [(Err(Failed), 1), (Ok(2), 1), (Ok(0), 1)] {
+        assert_eq!(rt; src.read(&mut buf), answer);
+        assert_eq!(rt; src.faults(), faults);
+    }
+    let mut sink = StdSink::over(Stutter(0));
+    for (answer, faults) in [(Err(Failed), 1), (Ok(2), 1), (Err(Failed), 2)] {
+        assert_eq!(rt; sink.write(b"abc"), answer);
+        assert_eq!(rt; sink.faults(), faults);
+    }
+    assert_eq!(rt; sink.write(b""), Ok(0));
 }

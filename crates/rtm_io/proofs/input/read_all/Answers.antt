@@ -8,7 +8,7 @@ loop-bytes-init g c =
       within = omega arith;
       some = omega arith;
       given = rw c.new-bytes.ensures.items (Gives-nothing _);
-      later = omega arith;
+      kept = omega arith;
     }
 
 -- the last read, which finds the end
@@ -35,7 +35,7 @@ loop-bytes-preserved g c =
       within = omega arith;
       some = omega arith;
       given = rw said.bytes (Gives-append _ _ _ _ _ kept.given said.given);
-      later = omega arith;
+      kept = omega arith;
     }
 
 -- a read that fails, or whose bytes find no memory
@@ -47,7 +47,7 @@ returns-in-Err-clause-front g c =
 pub returns-clause-fault : goal.returns-clause-fault
 returns-clause-fault g c =
     let line = rw c.deref.ensures.value at c.line_after-line.ensures in
-    IsTooLong-past _ _ _ _ _ c.loop-bytes.invariant.given (omega arith) line
+    (IsTooLong-past _ _ _ _ _ c.loop-bytes.invariant.given (omega arith) line, c.loop-bytes.invariant.kept)
 
 pub returns-clause-front : goal.returns-clause-front
 returns-clause-front g c = TakesAtMost-from_Gives _ _ _ _ (omega arith) c.loop-bytes.invariant.given

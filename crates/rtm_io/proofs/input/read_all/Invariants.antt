@@ -1,13 +1,13 @@
-use Rattle.std.proofs.Common.{ℕ, List, ◌+◌, ◌-◌, ◌≤◌, ◌<◌, Option, vec_len}
+use Rattle.std.proofs.Common.{◌≡◌, ℕ, List, ◌+◌, ◌-◌, ◌≤◌, ◌<◌, Option, vec_len}
 use Rattle.rtm_io.specs.Stream.{Gives}
 use Rattle.rtm_io.proofs.input.read_all.Given as goal
 
--- the bytes are what the source gave so far, one past the limit at most, and its count of faults didn't fall
+-- the bytes are what the source gave so far, one past the limit at most, and its count of faults stayed
 pub record IsSoFar (limit : ℕ) (old new : Option (List ℕ)) (before now : ℕ) (len room : ℕ) (bytes : List ℕ) : Type 0 where
   pub within : len ≤ limit + 1
   pub some : 0 < room
   pub given : Gives old new bytes
-  pub later : before ≤ now
+  pub kept : now ≡ before
 
 abbrev pub invariant-loop-bytes : goal.invariant-loop-bytes
 invariant-loop-bytes g l =
