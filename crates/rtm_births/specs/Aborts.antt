@@ -13,7 +13,7 @@ use Rattle.rtm_model.specs.declared.entry.Fate.TheVariants.{Queued}
 use Rattle.rtm_model.specs.declared.entry.What.{What}
 use Rattle.rtm_model.specs.declared.entry.What.TheVariants.{Arrive, Begin, Done, Exec}
 use Rattle.rtm_model.specs.declared.error_record.ErrorRecord.{ErrorRecord}
-use Rattle.rtm_model.specs.AbortLaw.{EndsAbort}
+use Rattle.rtm_model.specs.Entries.{EndsAbort}
 use Rattle.rtm_model.specs.Births.{abterm_abort, cancel_abort, cause_of, detach_abort, mother_abort, srb_abort, step_abort, world}
 use Rattle.rtm_model.specs.Moments.{IsIn}
 use Rattle.rtm_model.specs.Outside.{fate_in}

@@ -11,7 +11,7 @@ use Rattle.rtm_model.specs.declared.entry.What.TheVariants.{Exec, Release}
 use Rattle.rtm_model.specs.declared.holding.Holding.{Holding}
 use Rattle.rtm_model.specs.Births.{world}
 use Rattle.rtm_model.specs.Ending.{held_by, newest_equal, of_class}
-use Rattle.rtm_model.specs.HoldLaw.{IsHeld}
+use Rattle.rtm_model.specs.Moments.{IsHeld}
 use Rattle.rtm_model.specs.Soundness.{HoldingsFall}
 use Rattle.rtm_model.specs.World.{World}
 use Rattle.rtm_births.specs.Life.{HasTheLiving, Table}

@@ -1,197 +1,234 @@
 -- The law of chains: an error enters the routines that are eligible for it in their order, each once, until one of
--- them retries or none is left (Authorized Assembler Services Guide, "Providing recovery"). An error is known by its
--- bracket: which entries are its own is read off by counting the brackets that open and close inside that one.
-use Rattle.std.specs.Prelude.{Bool, IsSome, List, None, Option, Some, [], drop, false, filter, if◌then◌else◌, length, not, true, ℕ, ◌&&◌, ◌++◌, ◌+◌, ◌-◌, ◌<◌, ◌==◌, ◌∷◌, ◌≡◌}
+-- them retries or none is left (Authorized Assembler Services Guide, "Providing recovery"; the order of several ESTAI
+-- routines, and what a TERM-only record admits, are this profile's). An error is named by the ERROR or LAND at which it
+-- is born, of the unit u.
+use Rattle.std.specs.Prelude.{Bool, IsSome, IsTrue, List, None, Option, Some, [], drop, false, filter, find, if◌then◌else◌, is_some, length, nat_lt, not, take, true, ℕ, ◌&&◌, ◌++◌, ◌+◌, ◌==◌, ◌∷◌, ◌≡◌, ◌||◌}
 use Rattle.std.specs.List.{list_any}
-use Rattle.std.specs.Option.{option_and_then, option_map_or}
+use Rattle.std.specs.Option.{option_and_then, option_map, option_map_or}
 use Rattle.rtm_items.specs.View.{DeckView}
 use Rattle.rtm_model.specs.declared.entry.Entry.{Entry}
 use Rattle.rtm_model.specs.declared.entry.Verdict.{Verdict}
-use Rattle.rtm_model.specs.declared.entry.Verdict.TheVariants.{Bad, Fail, Over, Perc, Retry, Stop}
+use Rattle.rtm_model.specs.declared.entry.Verdict.TheVariants.{Fail, Retry, Stop}
 use Rattle.rtm_model.specs.declared.entry.What.{What}
-use Rattle.rtm_model.specs.declared.entry.What.TheVariants.{Arrive, Begin, Enter, Error, Land, Leave, Purge}
-use Rattle.rtm_model.specs.declared.error_record.ErrorRecord.{ErrorRecord}
+use Rattle.rtm_model.specs.declared.entry.What.TheVariants.{Begin, Enter, Leave, Purge}
 use Rattle.rtm_model.specs.declared.reg.Kind.{Kind}
-use Rattle.rtm_model.specs.declared.reg.Kind.TheVariants.{Estae, Estai, Frr, Mgr}
 use Rattle.rtm_model.specs.declared.reg.Reg.{Reg}
-use Rattle.rtm_model.specs.Births.{advance}
-use Rattle.rtm_model.specs.Chains.{is_admitted, is_of_depth}
-use Rattle.rtm_model.specs.Levels.{depth_in, error_in, record_in}
-use Rattle.rtm_model.specs.Moments.{IsAt, before, core_before}
-use Rattle.rtm_model.specs.NextEntry.{left}
-use Rattle.rtm_model.specs.Record.{verdict}
-use Rattle.rtm_model.specs.World.{Core, World, core_at}
+use Rattle.rtm_model.specs.Births.{world}
+use Rattle.rtm_model.specs.Course.{course_of, is_fail, is_valid_retry, opens_error}
+use Rattle.rtm_model.specs.Eligible.{AreDistinct, AreFalling, bracket_list, is_named, is_same_kind, list_of}
+use Rattle.rtm_model.specs.Entries.{Bracket, Opening, bracket, brackets_after, brackets_of, enclosing_brackets, error_at, is_open, outermost_bracket}
+use Rattle.rtm_model.specs.Levels.{error_in, record_in}
+use Rattle.rtm_model.specs.Moments.{IsAt, core_before}
+use Rattle.rtm_model.specs.Tasks.{is_number}
+use Rattle.rtm_model.specs.World.{core_at}
 
--- The list of the routines that are eligible for an error of the innermost bracket, in the order in which they get
--- control
+-- The chain of an error
 
-abbrev pub frrs_for : ℕ → Bool → List Reg → List Reg
-frrs_for depth term_only frrs = if term_only then [] else filter (is_of_depth depth) frrs
+-- the ENTER of that index
+abbrev pub entered_at : ℕ → What → List Opening
+entered_at n (Enter kind born mark) = record { at = n; kind = kind; born = born } ∷ []
+entered_at n _ = []
 
-abbrev pub estaes_for : ℕ → Bool → List Reg → List Reg
-estaes_for depth term_only estaes = filter (λ reg. is_of_depth depth reg && is_admitted term_only reg) estaes
+-- the entry is made where the error is open in the unit's innermost bracket
+abbrev pub is_made_for : ℕ → ℕ → Entry → List Bracket → Bool
+is_made_for error u e brackets = (e.unit == u) && is_number error (error_at brackets)
 
-abbrev pub estais_for : ℕ → Bool → List Reg → List Reg
-estais_for depth term_only estais = if depth == 0 then filter (is_admitted term_only) estais else []
+abbrev pub chain_from : ℕ → ℕ → ℕ → List Bracket → List Entry → List Opening
+chain_from error u n brackets [] = []
+chain_from error u n brackets (e ∷ es) =
+    (if is_made_for error u e brackets then entered_at n e.what else [])
+    ++ chain_from error u (n + 1) (brackets_after u n e brackets) es
 
-abbrev pub bracket_routines : Core → ErrorRecord → List Reg
-bracket_routines c r =
-    frrs_for (depth_in c.levels) r.flags.term_only c.frrs ++ estaes_for (depth_in c.levels) r.flags.term_only c.estaes
+-- the ENTERs that are made for the error, in order
+abbrev pub chain : ℕ → ℕ → List Entry → List Opening
+chain error u history = chain_from error u 0 outermost_bracket history
 
-abbrev pub eligible_list : Core → ErrorRecord → List Reg
-eligible_list c r = bracket_routines c r ++ estais_for (depth_in c.levels) r.flags.term_only c.estais
+-- a routine is left: the LEAVE of that index
+pub record Leaving : Type 0 where
+  pub at : ℕ
+  pub kind : Kind
+  pub born : ℕ
+  pub verdict : Verdict
 
--- those for the error that is open in the innermost bracket: of the bracket, and with the ESTAI routines
-abbrev pub bracket_list : Core → List Reg
-bracket_list c = option_map_or (bracket_routines c) (error_in c.levels) []
+abbrev pub left_at : ℕ → What → List Leaving
+left_at n (Leave kind born verdict logrec dump) =
+    record { at = n; kind = kind; born = born; verdict = verdict } ∷ []
+left_at n _ = []
 
-abbrev pub list_here : Core → List Reg
-list_here c = option_map_or (eligible_list c) (error_in c.levels) []
+abbrev pub leavings_from : ℕ → ℕ → ℕ → List Bracket → List Entry → List Leaving
+leavings_from error u n brackets [] = []
+leavings_from error u n brackets (e ∷ es) =
+    (if is_made_for error u e (enclosing_brackets brackets) then left_at n e.what else [])
+    ++ leavings_from error u (n + 1) (brackets_after u n e brackets) es
 
--- each is older than the one before it
-abbrev pub AreFalling : List Reg → Type 0
-AreFalling [] = Unit {0}
-AreFalling (reg ∷ []) = Unit {0}
-AreFalling (reg ∷ older ∷ regs) = (older.born < reg.born) × AreFalling (older ∷ regs)
+-- the LEAVEs of routines that were entered for the error, in order
+abbrev pub leavings : ℕ → ℕ → List Entry → List Leaving
+leavings error u history = leavings_from error u 0 outermost_bracket history
 
-abbrev pub is_same_kind : Kind → Kind → Bool
-is_same_kind Frr Frr = true
-is_same_kind Estae Estae = true
-is_same_kind Estai Estai = true
-is_same_kind Mgr Mgr = true
-is_same_kind _ _ = false
+-- each is left under the name by which it was entered; the last may still run
+abbrev pub are_left : List Opening → List Leaving → Bool
+are_left openings [] = true
+are_left [] (leaving ∷ later) = false
+are_left (opening ∷ openings) (leaving ∷ later) =
+    is_same_kind opening.kind leaving.kind && (opening.born == leaving.born) && are_left openings later
 
--- the routine is the one of that kind and birth
-abbrev pub is_named : Kind → ℕ → Reg → Bool
-is_named kind born reg = is_same_kind kind reg.kind && (reg.born == born)
+-- What is left of the list
 
--- no two of them have one name
-abbrev pub AreDistinct : List Reg → Type 0
-AreDistinct [] = Unit {0}
-AreDistinct (reg ∷ regs) = (list_any (is_named reg.kind reg.born) regs ≡ false) × AreDistinct regs
+-- what follows the routines of that chain, which stand at the front of the list; none where they don't
+abbrev pub rest_after : List Opening → List Reg → Option (List Reg)
+rest_after [] regs = Some regs
+rest_after (opening ∷ openings) [] = None
+rest_after (opening ∷ openings) (reg ∷ regs) =
+    if is_named opening.kind opening.born reg then rest_after openings regs else None
 
--- The course of an error: what is left of its list, and how many brackets are open inside its own; that its last
--- routine has said Stop; or that it has ended
-pub data Course : Type 0 where
-  Goes : (left : List Reg) → (inside : ℕ) → Course
-  Stopped : Course
-  Closed : Course
+-- its routine has failed by an error that admits routines with TERM=YES alone
+abbrev pub is_term_only : DeckView → List Entry → ℕ → ℕ → Bool
+is_term_only d history i u = option_map_or (λ r. r.flags.term_only) (error_in (core_before d history i u).levels) false
 
--- it ends where that holds, and else the law is broken
-abbrev pub closed_if : Bool → Option Course
-closed_if holds = if holds then Some Closed else None
+abbrev pub forces_end : DeckView → List Entry → ℕ → Leaving → Bool
+forces_end d history u leaving = is_fail leaving.verdict && is_term_only d history leaving.at u
 
--- the first of the list is entered
-abbrev pub entered_for : Kind → ℕ → List Reg → Option Course
-entered_for kind born [] = None
-entered_for kind born (reg ∷ left) = if is_named kind born reg then Some (Goes left 1) else None
+-- the index of the first such LEAVE
+abbrev pub forced_at : DeckView → List Entry → ℕ → ℕ → Option ℕ
+forced_at d history error u =
+    option_map (λ (l : Leaving). l.at) (find (forces_end d history u) (leavings error u history))
 
-abbrev pub is_fail : Verdict → Bool
-is_fail Fail = true
-is_fail _ = false
+-- the part of the chain before that LEAVE, and the part after it
+abbrev pub is_before : Option ℕ → Opening → Bool
+is_before forced opening = option_map_or (nat_lt opening.at) forced true
 
--- The error's bracket is the innermost: its next routine is entered; or, where none is left, the bracket's own
--- routine has failed, or the unit begins to end.
-abbrev pub at_error : What → List Reg → Option Course
-at_error (Enter kind reg mark) left = entered_for kind reg left
-at_error (Leave kind reg verdict logrec dump) left = closed_if (is_fail verdict && (length left == 0))
-at_error (Begin code dump) left = closed_if (length left == 0)
-at_error (Arrive cmd _) left = Some (Goes left 0)
-at_error _ left = None
+abbrev pub free_chain : DeckView → List Entry → ℕ → ℕ → List Opening
+free_chain d history error u = filter (is_before (forced_at d history error u)) (chain error u history)
 
--- what is left after a routine has failed: by an error that admits routines with TERM=YES alone, those
-abbrev pub left_after : Option ErrorRecord → List Reg → List Reg
-left_after None left = left
-left_after (Some inner) left = if inner.flags.term_only then filter (λ reg. reg.term) left else left
+abbrev pub forced_chain : DeckView → List Entry → ℕ → ℕ → List Opening
+forced_chain d history error u =
+    filter (λ opening. not (is_before (forced_at d history error u) opening)) (chain error u history)
 
--- a retry is asked for by RC=4, and not forbidden
-abbrev pub is_valid_retry : Option ErrorRecord → Bool
-is_valid_retry r = option_map_or (λ r. (r.rc == 4) && not r.flags.clup) r false
+-- from such a failure on, those with TERM=YES alone
+abbrev pub admitted_after : Option ℕ → List Reg → List Reg
+admitted_after None regs = regs
+admitted_after (Some forced) regs = filter (λ reg. reg.term) regs
 
--- its routine has come to an end
-abbrev pub after_routine : Core → Verdict → List Reg → Option Course
-after_routine c (Retry place) left = closed_if (is_valid_retry (record_in c.levels))
-after_routine c Stop left = Some Stopped
-after_routine c Perc left = Some (Goes left 0)
-after_routine c Bad left = Some (Goes left 0)
-after_routine c Fail left = Some (Goes (left_after (error_in c.levels) left) 0)
-after_routine c Over left = None
+-- what is left of the list: none where the chain goes another way
+abbrev pub left_of : DeckView → List Entry → ℕ → ℕ → Option (List Reg)
+left_of d history error u =
+    option_and_then
+    (λ rest. rest_after (forced_chain d history error u) (admitted_after (forced_at d history error u) rest))
+    (rest_after (free_chain d history error u) (list_of d history error u))
 
--- its routine runs
-abbrev pub in_routine : Core → What → List Reg → Option Course
-in_routine c (Enter kind reg mark) left = Some (Goes left 2)
-in_routine c (Leave kind reg verdict logrec dump) left = after_routine c verdict left
-in_routine c (Begin code dump) left = None
-in_routine c _ left = Some (Goes left 1)
+-- no two of the chain have one name
+abbrev pub is_opening_of : Opening → Opening → Bool
+is_opening_of one other = is_same_kind one.kind other.kind && (one.born == other.born)
 
--- brackets are open inside its routine's
-abbrev pub inside_routine : What → List Reg → ℕ → Option Course
-inside_routine (Enter kind reg mark) left inside = Some (Goes left (inside + 1))
-inside_routine (Leave kind reg verdict logrec dump) left inside = Some (Goes left (inside - 1))
-inside_routine (Begin code dump) left inside = None
-inside_routine _ left inside = Some (Goes left inside)
+abbrev pub are_entered_once : List Opening → Bool
+are_entered_once [] = true
+are_entered_once (opening ∷ later) = not (list_any (is_opening_of opening) later) && are_entered_once later
 
-abbrev pub goes_on_by : Core → What → List Reg → ℕ → Option Course
-goes_on_by c what left inside =
-    if inside == 0 then at_error what left
-    else if inside == 1 then in_routine c what left
-    else inside_routine what left inside
+-- The ways to end
 
--- after a Stop the unit begins to end
-abbrev pub after_stop : What → Option Course
-after_stop (Begin code dump) = Some Closed
-after_stop (Arrive cmd _) = Some Stopped
-after_stop _ = None
+-- the whole list was entered and left
+abbrev pub is_used_up : DeckView → List Entry → ℕ → ℕ → Bool
+is_used_up d history error u =
+    option_map_or (λ regs. length regs == 0) (left_of d history error u) false
+    && (length (chain error u history) == length (leavings error u history))
 
--- the course after an entry of the error's unit, whose control blocks were those before it; none where the law is
--- broken
-abbrev pub course_by : Core → What → Course → Option Course
-course_by c what (Goes left inside) = goes_on_by c what left inside
-course_by c what Stopped = after_stop what
-course_by c what Closed = Some Closed
+-- its last routine has said Stop
+abbrev pub is_stop : Verdict → Bool
+is_stop Stop = true
+is_stop _ = false
 
--- the unit is purged
-abbrev pub purges : ℕ → What → Bool
-purges u (Purge unit) = unit == u
-purges u _ = false
+abbrev pub ends_in_stop : List Leaving → Bool
+ends_in_stop [] = false
+ends_in_stop (leaving ∷ []) = is_stop leaving.verdict
+ends_in_stop (leaving ∷ next ∷ later) = ends_in_stop (next ∷ later)
 
--- the course after an entry: a purge of the unit ends the error, and other units' entries leave it as it is
-abbrev pub course_after : ℕ → World → Entry → Course → Option Course
-course_after u w e course =
-    if purges u e.what then Some Closed else if e.unit == u then course_by (core_at u w) e.what course else Some course
+-- the bracket was opened for the routine of that name
+abbrev pub is_opened_for : Kind → ℕ → Opening → Bool
+is_opened_for kind born opening = is_same_kind kind opening.kind && (opening.born == born)
 
--- the course after these entries, of which the first has the index n and is made where w lives
-abbrev pub course_in : DeckView → ℕ → World → ℕ → List Entry → Course → Option Course
-course_in d u w n [] course = Some course
-course_in d u w n (e ∷ es) course =
-    option_and_then (λ after. course_in d u (advance d w n e) (n + 1) es after) (course_after u w e course)
+abbrev pub is_own : Kind → ℕ → Option Opening → Bool
+is_own kind born opening = option_map_or (is_opened_for kind born) opening false
 
--- the list of the error that is born at the entry of index i, an entry of the unit u
-abbrev pub list_of : DeckView → List Entry → ℕ → ℕ → List Reg
-list_of d history i u = list_here (core_before d history (i + 1) u)
+abbrev pub is_outside : Option Opening → Bool
+is_outside opening = option_map_or (λ opening. false) opening true
 
--- its course through the rest of the history
-abbrev pub course_of : DeckView → List Entry → ℕ → ℕ → Option Course
-course_of d history i u =
-    course_in d u (before d history (i + 1)) (i + 1) (drop (i + 1) history) (Goes (list_of d history i u) 0)
+-- the innermost bracket is that of a routine which was entered for the error
+abbrev pub is_entered_for : ℕ → List Bracket → Bool
+is_entered_for error brackets = is_number error (error_at (enclosing_brackets brackets))
 
--- an error is born
-abbrev pub opens_error : What → Bool
-opens_error (Error at mark) = true
-opens_error (Land class from mark) = true
-opens_error _ = false
+-- A LEAVE with that verdict ends it: with Retry of the routine that was entered for it last and runs, whose record has
+-- RC=4 and allows it; or, once the whole list was entered and left, with Fail of the bracket's own routine
+abbrev pub ends_by_leave : DeckView → List Entry → ℕ → ℕ → Kind → ℕ → Verdict → Bool
+ends_by_leave d front error u kind born (Retry place) =
+    is_entered_for error (brackets_of u front) && is_own kind born (bracket u front)
+    && is_valid_retry (record_in (core_at u (world d front)).levels)
+ends_by_leave d front error u kind born Fail = is_own kind born (bracket u front) && is_used_up d front error u
+ends_by_leave d front error u kind born _ = false
 
--- what the list and the course of the error keep that is born at the entry of index i, an entry of the unit u
+-- and so does, in the outermost bracket, the unit's BEGIN once the whole list was entered and left, or after a Stop;
+-- and a purge of the unit
+abbrev pub ends_by : DeckView → List Entry → ℕ → ℕ → What → Bool
+ends_by d front error u (Leave kind born verdict logrec dump) = ends_by_leave d front error u kind born verdict
+ends_by d front error u (Begin code dump) =
+    is_outside (bracket u front) && (is_used_up d front error u || ends_in_stop (leavings error u front))
+ends_by d front error u (Purge unit) = unit == u
+ends_by d front error u _ = false
+
+-- the error is open before the entry of index k, and not after it
+pub record EndsAt (history : List Entry) (error u k : ℕ) : Type 0 where
+  pub lived : is_open error u (take k history) ≡ true
+  pub gone : is_open error u (take (k + 1) history) ≡ false
+
+-- Error by error
+
+-- the first entry, of those from the index k on, after which the error isn't open, may end it; or none is
+abbrev pub ends_rightly_from : DeckView → List Entry → ℕ → ℕ → ℕ → List Entry → Bool
+ends_rightly_from d history error u k [] = true
+ends_rightly_from d history error u k (e ∷ es) =
+    if is_open error u (take (k + 1) history) then ends_rightly_from d history error u (k + 1) es
+    else ends_by d (take k history) error u e.what
+
+-- that an error keeps the law can be computed: its chain goes along its list, enters none twice and is left under the
+-- same names, it ends in one of the ways, and it has a course
+abbrev pub keeps_chain : DeckView → List Entry → ℕ → ℕ → Bool
+keeps_chain d history error u =
+    is_some (left_of d history error u) && are_entered_once (chain error u history)
+    && are_left (chain error u history) (leavings error u history)
+    && ends_rightly_from d history error u (error + 1) (drop (error + 1) history)
+    && is_some (course_of d history error u)
+
+abbrev pub keeps_chains_from : DeckView → List Entry → ℕ → List Entry → Bool
+keeps_chains_from d history i [] = true
+keeps_chains_from d history i (e ∷ es) =
+    (not (opens_error e.what) || keeps_chain d history i e.unit) && keeps_chains_from d history (i + 1) es
+
+abbrev pub keeps_chains : DeckView → List Entry → Bool
+keeps_chains d history = keeps_chains_from d history 0 history
+
+-- The law
+
+-- what the error keeps that is born at the entry of index i, an entry of the unit u
 pub record IsChained (d : DeckView) (history : List Entry) (i u : ℕ) : Type 0 where
-  -- the FRRs and ESTAE routines of the list stand by falling birth
+  -- the FRRs and ESTAE routines of its list stand by falling birth, and no routine stands twice in it
   pub falling : AreFalling (bracket_list (core_before d history (i + 1) u))
-  -- so no routine stands twice in the chain
   pub distinct : AreDistinct (list_of d history i u)
-  -- The routines are entered in the order of the list. The error ends by a valid retry of the last one that was
-  -- entered; by BEGIN after a Stop; after the whole list by a LEAVE with Fail or by BEGIN; by a purge; or the
-  -- history ends first.
+  -- until a routine has failed by a TERM-only error, the chain is a prefix of the list
+  pub free : IsSome (rest_after (free_chain d history i u) (list_of d history i u))
+  -- and from then on it goes on with a prefix of those of the rest that have TERM=YES
+  pub forced : IsSome (left_of d history i u)
+  -- no routine stands twice in the chain, and each is left under its own name
+  pub once : IsTrue (are_entered_once (chain i u history))
+  pub left : IsTrue (are_left (chain i u history) (leavings i u history))
+  -- The error ends in one of five ways: by a valid retry of the last routine of the chain; after a Stop by BEGIN; after
+  -- the whole list by a LEAVE with Fail of the bracket's own routine, or in the outermost bracket by BEGIN; by a
+  -- purge; or the history ends first.
+  pub ends : (k : ℕ) (e : Entry) → IsAt history k e → EndsAt history i u k
+      → IsTrue (ends_by d (take k history) i u e.what)
+  -- step by step it goes the same way
   pub course : IsSome (course_of d history i u)
 
 -- each error keeps it
 pub record ChainLaw (d : DeckView) (history : List Entry) : Type 0 where
   pub chained : (i : ℕ) (e : Entry) → IsAt history i e → opens_error e.what ≡ true → IsChained d history i e.unit
+  -- error by error it is kept
+  pub each : IsTrue (keeps_chains d history)

@@ -15,8 +15,13 @@ pub mod Arrivals
 pub mod Legal
 pub mod Turns
 pub mod Moments
+pub mod Records
+pub mod Entries
+pub mod Held
 pub mod HoldLaw
 pub mod AbortLaw
+pub mod Eligible
+pub mod Course
 pub mod ChainLaw
 pub mod Soundness
 pub mod Applies

@@ -4,7 +4,9 @@ use Rattle.rtm_items.specs.View.{DeckView}
 use Rattle.rtm_model.specs.declared.entry.Entry.{Entry}
 use Rattle.rtm_model.specs.declared.entry.What.{What}
 use Rattle.rtm_model.specs.declared.entry.What.TheVariants.{Arrive}
+use Rattle.rtm_model.specs.declared.holding.Holding.{Holding}
 use Rattle.rtm_model.specs.Births.{world}
+use Rattle.rtm_model.specs.Ending.{held_by, of_class}
 use Rattle.rtm_model.specs.World.{Core, UnitOfWork, World, core_at, unit_at}
 
 -- what lives just before the entry of index i, and just after the one before it
@@ -35,3 +37,7 @@ IsIn x (y ∷ ys) = (x ≡ y) ⊎ IsIn x ys
 abbrev pub is_arrival : What → Bool
 is_arrival (Arrive cmd _) = true
 is_arrival _ = false
+
+-- the holding lives
+abbrev pub IsHeld : World → Holding → Type 0
+IsHeld w holding = IsIn holding (of_class holding.class (held_by holding.owner w.holdings))
