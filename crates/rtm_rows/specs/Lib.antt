@@ -24,3 +24,4 @@ pub mod SixteenBrackets
 pub mod JobStepEnds
 pub mod NormalEnd
 pub mod TwoAborts
+pub mod AbtermWithoutRetry

@@ -1,5 +1,5 @@
 -- Words in which decks and histories are written here: units and programs by number, places by program and operation.
-use Rattle.std.specs.Prelude.{Bool, List, None, Option, Some, false, ℕ}
+use Rattle.std.specs.Prelude.{Bool, List, None, Option, Some, [], false, take, true, ℕ, ◌++◌, ◌∷◌}
 use Rattle.rtm_codes.specs.declared.code.Code.{Code}
 use Rattle.rtm_items.specs.View.{ProgramView}
 use Rattle.rtm_items.specs.declared.deck.Command.{Command}
@@ -14,8 +14,12 @@ use Rattle.rtm_model.specs.declared.entry.Fate.{Fate}
 use Rattle.rtm_model.specs.declared.entry.Verdict.{Verdict}
 use Rattle.rtm_model.specs.declared.entry.Verdict.TheVariants.{Retry}
 use Rattle.rtm_model.specs.declared.entry.What.TheVariants.{Arrive, Begin, Done, Enter, Error, Exec, Land, Leave, MemEnd, Purge, Release}
+use Rattle.rtm_model.specs.declared.holding.Holding.{Holding}
 use Rattle.rtm_model.specs.declared.mark.Mark.{Mark}
 use Rattle.rtm_model.specs.declared.reg.Kind.{Kind}
+use Rattle.rtm_model.specs.declared.reg.Reg.{Reg}
+use Rattle.rtm_model.specs.ChainLaw.{Leaving}
+use Rattle.rtm_model.specs.Entries.{Opening}
 use Rattle.rtm_model.specs.Record.{verdict}
 use Rattle.rtm_model.specs.declared.entry.Class.{Class}
 use Rattle.rtm_items.specs.declared.deck.Unit.{Unit as UnitCard}
@@ -55,6 +59,31 @@ setrp rc retaddr remrec compcod reason dump logrec fresdwa = record {
   logrec = logrec;
   fresdwa = fresdwa;
 }
+
+-- Routines, each with its birth and its program: made by the first request block of a unit, in the outermost bracket, by a
+-- card with CANCEL=YES alone
+abbrev pub routine : Kind → ℕ → ℕ → Reg
+routine kind born prog = record {
+  kind = kind;
+  born = born;
+  owner = 0;
+  depth = 0;
+  prog = prog;
+  term = false;
+  cancel = true;
+  xctl = false;
+}
+
+-- ENTERs and LEAVEs by their index, and holdings
+
+abbrev pub opening : ℕ → Kind → ℕ → Opening
+opening at kind born = record { at = at; kind = kind; born = born }
+
+abbrev pub leaving : ℕ → Kind → ℕ → Verdict → Leaving
+leaving at kind born verdict = record { at = at; kind = kind; born = born; verdict = verdict }
+
+abbrev pub holding : ℕ → Res → ℕ → ℕ → Holding
+holding born class id owner = record { born = born; class = class; id = id; owner = owner }
 
 -- Entries, each with its unit first
 
@@ -111,3 +140,7 @@ purge u unit = record { unit = u; what = Purge unit }
 
 abbrev pub memend : ℕ → Entry
 memend u = record { unit = u; what = MemEnd }
+
+-- the first n entries of a history, and then that one
+abbrev pub front_and : List Entry → ℕ → Entry → List Entry
+front_and history n e = take n history ++ e ∷ []

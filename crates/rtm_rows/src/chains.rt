@@ -3,18 +3,35 @@
 
 ghost use Rattle.std.specs.Prelude.{◌≡◌, ◌++◌, ◌∷◌, [], true, false, take, None, Some};
 ghost use Rattle.rtm_codes.specs.declared.code.Code.TheVariants.{Sys, User};
-ghost use Rattle.rtm_model.specs.declared.reg.Kind.TheVariants.{Estae, Estai};
-ghost use Rattle.rtm_model.specs.ChainLaw.{Goes, Closed, course_of, list_of};
-ghost use Rattle.rtm_rows.specs.Writing.{enter, leave, begin, retry, mark, marked};
+ghost use Rattle.rtm_operands.specs.declared.value.Res.TheVariants.{Enq};
+ghost use Rattle.rtm_model.specs.declared.entry.Verdict.TheVariants.{Perc, Fail};
+ghost use Rattle.rtm_model.specs.declared.reg.Kind.TheVariants.{Estae, Estai, Frr, Mgr};
+ghost use Rattle.rtm_model.specs.Course.{Goes, Runs, Closed, course_of};
+ghost use Rattle.rtm_model.specs.Eligible.{list_of};
+ghost use Rattle.rtm_rows.specs.Writing.{enter, leave, begin, retry, release, done, purge, memend, front_and};
+ghost use Rattle.rtm_rows.specs.Writing.{mark, marked, routine};
 ghost use Rattle.rtm_rows.specs.CancelInsideARoutine as cancel_inside_a_routine_row;
 ghost use Rattle.rtm_rows.specs.FailureOfARoutine as failure_of_a_routine_row;
 ghost use Rattle.rtm_rows.specs.InheritedEstai as inherited_estai_row;
+ghost use Rattle.rtm_rows.specs.ManagerFails as manager_fails_row;
 ghost use Rattle.rtm_rows.specs.MemoryEnd as memory_end_row;
 ghost use Rattle.rtm_rows.specs.PercolationAndRetry as percolation_and_retry_row;
 ghost use Rattle.rtm_rows.specs.RetryUntilTheLimit as retry_until_the_limit_row;
 ghost use Rattle.rtm_rows.specs.SeventeenFrrs as seventeen_frrs_row;
 ghost use Rattle.rtm_rows.specs.SixteenBrackets as sixteen_brackets_row;
 ghost use Rattle.rtm_rows.specs.StopByAnEstai as stop_by_an_estai_row;
+
+/// For an error of the outermost bracket its ESTAE routines are eligible, the newest first.
+pub fn eligible_routines()
+    ensures { list_of percolation_and_retry_row.deck percolation_and_retry_row.history 2 0
+        ≡ routine Estae 1 2 ∷ routine Estae 0 1 ∷ [] }
+{}
+
+/// For a cancel no routine with TERM=NO is eligible.
+pub fn no_eligible_routine()
+    ensures { list_of cancel_inside_a_routine_row.deck cancel_inside_a_routine_row.history 9 0
+        ≡ [] }
+{}
 
 /// A routine percolates and the next one retries: the error is over.
 pub fn percolation_then_retry()
@@ -24,7 +41,7 @@ pub fn percolation_then_retry()
 /// The last error of a history that ends first still has its whole list.
 pub fn retry_not_yet_over()
     ensures { course_of retry_until_the_limit_row.deck retry_until_the_limit_row.history 9 0
-        ≡ Some (Goes (list_of retry_until_the_limit_row.deck retry_until_the_limit_row.history 9 0) 0) }
+        ≡ Some (Goes (list_of retry_until_the_limit_row.deck retry_until_the_limit_row.history 9 0)) }
 {}
 
 /// Sixteen FRRs percolate, and the unit begins to end.
@@ -50,6 +67,23 @@ pub fn stop_ends_the_list()
 /// A purge ends an error whose routine runs.
 pub fn purge_ends_an_error()
     ensures { course_of memory_end_row.deck memory_end_row.history 7 1 ≡ Some Closed }
+{}
+
+/// The newest routine runs, and the oldest is left.
+pub fn routine_runs()
+    ensures { course_of percolation_and_retry_row.deck (take 5 percolation_and_retry_row.history) 2 0
+        ≡ Some (Runs (routine Estae 1 2) (routine Estae 0 1 ∷ []) 0) }
+{}
+
+/// An error inside a routine has its own list; the routine runs on.
+pub fn error_inside_a_routine()
+    ensures { course_of failure_of_a_routine_row.deck (take 5 failure_of_a_routine_row.history) 4 0
+        ≡ Some (Goes []) }
+{}
+
+/// An error in a resource manager's bracket ends with the manager.
+pub fn failure_of_a_manager()
+    ensures { course_of manager_fails_row.deck manager_fails_row.history 5 0 ≡ Some Closed }
 {}
 
 /// A routine that has percolated is entered again.
@@ -85,4 +119,64 @@ pub fn estai_not_inherited()
 /// After RC=16 of an ESTAI routine the next one is entered.
 pub fn estai_after_a_stop()
     ensures { course_of stop_by_an_estai_row.deck (take 6 stop_by_an_estai_row.history ++ enter 2 Estai 0 (marked (Sys 0x0C7) None false true false) ∷ []) 2 2 ≡ None }
+{}
+
+/// A routine is left under the name of another one.
+pub fn routine_left_under_another_name()
+    ensures { course_of percolation_and_retry_row.deck
+        (front_and percolation_and_retry_row.history 5 (leave 0 Estae 0 Perc)) 2 0 ≡ None }
+{}
+
+/// A retry is by an FRR that nobody has entered.
+pub fn retry_by_another_kind()
+    ensures { course_of percolation_and_retry_row.deck
+        (front_and percolation_and_retry_row.history 8 (leave 0 Frr 5 (retry 0 4))) 2 0 ≡ None }
+{}
+
+/// A resource manager fails under another number.
+pub fn manager_left_under_another_name()
+    ensures { course_of manager_fails_row.deck
+        (front_and manager_fails_row.history 6 (leave 0 Mgr 77 Fail)) 5 0 ≡ None }
+{}
+
+/// A unit begins to end at an error inside a resource manager.
+pub fn end_inside_a_manager()
+    ensures { course_of manager_fails_row.deck
+        (front_and manager_fails_row.history 6 (begin 0 (User 1) false)) 5 0 ≡ None }
+{}
+
+/// A routine fails in the outermost bracket, where none runs.
+pub fn failure_in_the_outermost()
+    ensures { course_of percolation_and_retry_row.deck
+        (front_and percolation_and_retry_row.history 10 (leave 0 Estae 0 Fail)) 9 0 ≡ None }
+{}
+
+/// A routine fails although no error is open in it.
+pub fn failure_without_an_error()
+    ensures { course_of percolation_and_retry_row.deck
+        (front_and percolation_and_retry_row.history 5 (leave 0 Estae 1 Fail)) 2 0 ≡ None }
+{}
+
+/// A unit is done while a routine of it runs.
+pub fn done_inside_a_routine()
+    ensures { course_of percolation_and_retry_row.deck
+        (front_and percolation_and_retry_row.history 4 (done 0 (Sys 0x0C1))) 2 0 ≡ None }
+{}
+
+/// A resource is released while a routine runs.
+pub fn release_inside_a_routine()
+    ensures { course_of percolation_and_retry_row.deck
+        (front_and percolation_and_retry_row.history 4 (release 0 Enq 1 0)) 2 0 ≡ None }
+{}
+
+/// A unit inside a routine purges another one.
+pub fn purge_inside_a_routine()
+    ensures { course_of percolation_and_retry_row.deck
+        (front_and percolation_and_retry_row.history 4 (purge 0 1)) 2 0 ≡ None }
+{}
+
+/// The address space ends while a routine runs.
+pub fn memory_end_inside_a_routine()
+    ensures { course_of percolation_and_retry_row.deck
+        (front_and percolation_and_retry_row.history 4 (memend 0)) 2 0 ≡ None }
 {}

@@ -29,6 +29,7 @@ ghost use Rattle.rtm_rows.specs.SixteenBrackets as sixteen_brackets_row;
 ghost use Rattle.rtm_rows.specs.JobStepEnds as job_step_ends_row;
 ghost use Rattle.rtm_rows.specs.NormalEnd as normal_end_row;
 ghost use Rattle.rtm_rows.specs.TwoAborts as two_aborts_row;
+ghost use Rattle.rtm_rows.specs.AbtermWithoutRetry as abterm_without_retry_row;
 
 /// A routine that percolates, and an older one that retries and is removed.
 pub fn percolation_and_retry()
@@ -196,4 +197,11 @@ pub fn two_aborts()
     ensures legal { Legal two_aborts_row.deck two_aborts_row.history }
     ensures ends { end_of two_aborts_row.deck two_aborts_row.history ≡ Some Ended }
     ensures in_turns { seq two_aborts_row.deck ≡ two_aborts_row.history }
+{}
+
+/// CALLRTM TYPE=ABTERM with RETRY=NO: the retry that a routine asks for is refused.
+pub fn abterm_without_retry()
+    ensures legal { Legal abterm_without_retry_row.deck abterm_without_retry_row.history }
+    ensures ends { end_of abterm_without_retry_row.deck abterm_without_retry_row.history ≡ Some Ended }
+    ensures in_turns { seq abterm_without_retry_row.deck ≡ abterm_without_retry_row.history }
 {}
