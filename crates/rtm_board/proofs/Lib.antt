@@ -3,3 +3,4 @@ pub mod Accounts
 pub mod Opening
 pub mod Closing
 pub mod Keeping
+pub mod Posting

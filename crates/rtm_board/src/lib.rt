@@ -5,10 +5,13 @@
 mod bits;
 mod board;
 mod notes;
+mod operator;
 mod seats;
 #[cfg(test)]
 mod tests;
+mod threads;
 
 pub use board::{Board, Posted};
 pub use notes::{Note, Notes};
+pub use operator::all_notes;
 pub use seats::{ConsoleSeat, UnitSeat};

@@ -3,20 +3,8 @@ ghost use Rattle.rtm_board.specs.View.{AreAccountedFor};
 
 use crate::board::opened;
 use crate::notes::notes_of;
-use crate::{Board, ConsoleSeat, Note, Notes, Posted, UnitSeat};
+use crate::{Board, ConsoleSeat, Notes, Posted, UnitSeat};
 use std::test::Fail;
-
-fn is_send<T: Send>() {}
-
-#[test]
-fn the_board_may_move_to_another_thread() {
-    is_send::<Board>();
-    is_send::<ConsoleSeat>();
-    is_send::<UnitSeat>();
-    is_send::<Notes>();
-    is_send::<Note>();
-    is_send::<Posted>();
-}
 
 #[derive(Clone, Copy, Debug)]
 enum BoardStep {

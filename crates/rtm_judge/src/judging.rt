@@ -1,9 +1,11 @@
 ghost use Rattle.std.specs.Prelude.{◌≡◌, ◌≤◌, [], IfErr, IfOk, IsTrue, OnOk};
+ghost use Rattle.rtm_board.specs.All.{AreAll};
 ghost use Rattle.rtm_items.specs.WellFormed.{is_well_formed};
 ghost use Rattle.rtm_model.specs.Legal.{Legal};
 ghost use Rattle.rtm_system.specs.Turned.{wanted};
 ghost use Rattle.rtm_judge.specs.Judged.{IsFault, IsIllegal, IsJudged, IsOtherEnd, WantedFits};
 
+use rtm_board::{Notes, all_notes};
 use rtm_codes::NoMemory;
 use rtm_items::Deck;
 use rtm_model::{End, Entry};
@@ -29,9 +31,21 @@ pub fn judge(alloc: Global, deck: &Deck, entries: &[Entry], end: End) -> Result<
     ensures fault { IfErr result (IsFault deck.now entries.now end) }
     ensures wanted { IfErr result (WantedFits deck.now) }
 {
+    let mut notes = notes_of(alloc, deck)?;
     let mut system = system_of(alloc, deck)?;
-    follow(&mut system, entries)?;
+    follow(&mut system, &mut notes, entries)?;
     end_as(&system, end)
+}
+
+// The notes of all commands of the deck, as its operator posts them.
+fn notes_of(alloc: Global, deck: &Deck) -> Result<Notes, JudgeFault>
+    ensures all { IfOk result (AreAll deck.now) }
+    ensures memory { IfErr result (λ fault. fault ≡ JudgeFault.Memory) }
+{
+    match all_notes(alloc, deck) {
+        Ok(notes) => Ok(notes),
+        Err(NoMemory) => Err(JudgeFault::Memory),
+    }
 }
 
 // A system of the deck at its start.
@@ -74,8 +88,9 @@ fn refused(system: &System, index: usize, entry: &Entry) -> JudgeFault
 }
 
 // The system makes the entries one after the other, up to the first that it may not make.
-fn follow(system: &mut System, entries: &[Entry]) -> Result<(), JudgeFault>
-    requires { system.old.trace ≡ [] }
+fn follow(system: &mut System, notes: &mut Notes, entries: &[Entry]) -> Result<(), JudgeFault>
+    requires start { system.old.trace ≡ [] }
+    requires notes { AreAll system.old.deck notes.old }
     ensures ok { OnOk result (system.new.trace ≡ entries.now) }
     ensures deck { system.new.deck ≡ system.old.deck }
     ensures fault { IfErr result (IsIllegal system.old.deck entries.now) }
@@ -85,7 +100,7 @@ fn follow(system: &mut System, entries: &[Entry]) -> Result<(), JudgeFault>
         if !system.may_follow(entry) {
             return Err(refused(system, index, entry));
         }
-        system.append(*entry);
+        system.make_next(notes, *entry);
     }
     Ok(())
 }

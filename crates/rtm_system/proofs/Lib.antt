@@ -4,3 +4,5 @@ pub mod Following
 pub mod Firsts
 pub mod Rounds
 pub mod Arrivals
+pub mod Arrives
+pub mod Shown

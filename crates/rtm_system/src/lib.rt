@@ -2,14 +2,13 @@
 #![tactic(auto)]
 
 mod arrived;
+mod next_entry;
 mod same;
 mod stepped;
 mod system;
+mod threads;
 mod turn;
 
 pub use arrived::Arrived;
 pub use stepped::Stepped;
 pub use system::System;
-
-#[cfg(test)]
-mod tests;

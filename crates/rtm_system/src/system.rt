@@ -11,7 +11,7 @@ ghost use Rattle.rtm_model.specs.Legal.{Legal, MayFollow, end_of};
 ghost use Rattle.rtm_model.specs.NextEntry.{next};
 ghost use Rattle.rtm_model.specs.World.{World};
 ghost use Rattle.rtm_machine.specs.Shape.{IsShaped};
-ghost use Rattle.rtm_system.specs.Turned.{IsNext};
+ghost use Rattle.rtm_system.specs.Turned.{IsNext, arriving};
 ghost use Rattle.rtm_system.specs.Steps.{arrived, entries_arrived, entries_of, is_gone, stepped, stops};
 
 use crate::arrived::Arrived;
@@ -186,9 +186,10 @@ impl System {
         self.deck.keeps_its_form();
     }
 
-    /// Adds an entry that may stand next.
+    /// Adds an entry that may stand next. A command arrives by its note alone: by `arrive`, or under `make_next`.
     pub fn append(&mut self, entry: Entry)
         requires next { IsNext self.old.deck self.old.trace entry }
+        requires no_arrival { arriving entry.what ≡ None }
         ensures trace { self.new.trace ≡ self.old.trace ++ entry ∷ [] }
         ensures deck { self.new.deck ≡ self.old.deck }
     {

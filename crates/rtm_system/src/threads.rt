@@ -1,10 +1,11 @@
+//! Each type of the crate may move to another thread.
+
 use crate::{Arrived, Stepped, System};
 
 fn is_send<T: Send>() {}
 
-// That it compiles is the test.
-#[test]
-fn each_type_may_move_to_another_thread() {
+// A law of the types, and no work: each call asks for `Send`.
+fn each_type_is_send() {
     is_send::<System>();
     is_send::<Stepped>();
     is_send::<Arrived>();
