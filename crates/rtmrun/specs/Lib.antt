@@ -1,5 +1,1 @@
-pub mod Answer
-pub mod Commands
-pub mod Due
-pub mod Run
-pub mod Verified
+pub mod Words

@@ -1,61 +1,62 @@
 //! Runs a deck of recovery termination and prints its trace, or judges a trace.
 #![tactic(auto)]
 
-ghost use Rattle.std.specs.Prelude.{IfErr};
-ghost use Rattle.rtmrun.specs.Answer.{HasNoWords};
+ghost use Rattle.std.specs.Prelude.{◌≡◌, IfErr, IfOk, drop, map, string_bytes};
+ghost use Rattle.rtmrun.specs.Words.{HasNoWords};
+ghost use Rattle.std.specs.Process.{exit_status};
+ghost use Rattle.rtm_top_answers.specs.Status.{status_number};
 
-mod answer;
-mod operator;
-mod outcome;
-mod request;
-mod run;
-mod top;
-mod turns;
-mod verify;
-
-use outcome::{RtmWord, Status};
 use rtm_io::{StdSink, StdSource};
+use rtm_top::{Outcome, RtmWord, Status, plain_words};
+use std::alloc::{AllocError, Global};
 use std::env;
 use std::io::ErrorKind;
 use std::process::ExitCode;
 use std::rt::Env;
-use top::plain_words;
 
-#[cfg(test)]
-mod run_tests;
-#[cfg(test)]
-mod scan_tests;
-#[cfg(test)]
-mod tests;
-#[cfg(test)]
-mod verify_tests;
+// The words behind the program's name, which is the first of all.
+fn words_behind(alloc: Global, all: Vec<String>) -> Result<Vec<RtmWord>, AllocError>
+    ensures { IfOk result (λ words. words.items ≡ map string_bytes (drop 1 all.items)) }
+{
+    all.into_iter()
+        .skip(1)
+        .map(|text| RtmWord { text })
+        .collect(alloc)
+}
 
-// The words behind the program's name. Which words the system gives no contract can say.
-fn words_of<R: Env + AllocGlobal>(rt: &R) -> Result<Vec<RtmWord>, Status>
+// The words that the system hands over, the program's name in front. Which they are the system gives no contract can say.
+fn all_words<R: Env + AllocGlobal>(rt: &R) -> Result<Vec<String>, Status>
     ensures { IfErr result HasNoWords }
 {
-    let all = match env::args(rt) {
-        Ok(all) => all,
-        Err(error) if error.kind() == ErrorKind::OutOfMemory => return Err(Status::Memory),
-        Err(_) => return Err(Status::Words),
-    };
-    let mut words = Vec::new(rt.alloc());
-    for text in all.skip(1) {
-        if words.push(RtmWord { text }).is_err() {
-            return Err(Status::Memory);
-        }
+    match env::args(rt) {
+        Ok(all) => match all.collect(rt.alloc()) {
+            Ok(texts) => Ok(texts),
+            Err(AllocError) => Err(Status::Memory),
+        },
+        Err(error) if error.kind() == ErrorKind::OutOfMemory => Err(Status::Memory),
+        Err(_) => Err(Status::Words),
     }
-    Ok(words)
+}
+
+// The number with which the program ends.
+fn exit_code(outcome: &Outcome) -> ExitCode
+    ensures { exit_status result ≡ status_number outcome.now.status }
+{
+    ExitCode::from(outcome.status.exit_status())
 }
 
 fn main(rt: HostRuntime) -> ExitCode {
-    let status = match words_of(&rt) {
-        Err(status) => status,
+    let words = match all_words(&rt) {
+        Ok(all) => words_behind(rt.alloc(), all).map_err(|_| Status::Memory),
+        Err(status) => Err(status),
+    };
+    let outcome = match words {
         Ok(words) => {
             let mut src = StdSource::over(rt.stdin());
             let mut out = StdSink::over(rt.stdout());
-            plain_words(rt.alloc(), &words, &mut src, &mut out).status
+            plain_words(rt.alloc(), &words, &mut src, &mut out)
         }
+        Err(status) => Outcome { status },
     };
-    ExitCode::from(status.exit_status())
+    exit_code(&outcome)
 }

@@ -1,0 +1,160 @@
+//! Aborts from outside: commands, and what tasks post to one another.
+
+use super::Row;
+use rtm_top::Status;
+
+pub static ROWS: [Row; 5] = [
+    Row {
+        name: "a cancel inside a routine's routine forbids every retry",
+        deck: "MAIN PROG
+ ESTAEX CT,PGM=KEEP,TERM=YES
+ ESTAEX CT,PGM=R1
+ ABEND S0C1
+BACK NOP
+ PEND
+R1 PROG
+ ESTAEX CT,PGM=R2
+ ABEND U1
+ PEND
+R2 PROG
+ ESTAEX CT,PGM=R3
+ NOP
+ ABEND U2
+ PEND
+R3 PROG
+ PEND
+KEEP PROG
+ SETRP RC=4,RETADDR=BACK
+ PEND
+JOB TASK PGM=MAIN
+ OPER
+ CANCEL JOB,AT=8
+ END
+",
+        status: Status::Fine,
+        trace: "RTMTRACE 1
+0 JOB EXEC MAIN.1 RC=0
+1 JOB EXEC MAIN.2 RC=0
+2 JOB ERROR MAIN.3 S0C1
+3 JOB ENTER ESTAE 1 S0C1
+4 JOB EXEC R1.1 RC=0
+5 JOB ERROR R1.2 U0001
+6 JOB ENTER ESTAE 4 U0001
+7 JOB EXEC R2.1 RC=0
+8 JOB ARRIVE 0 QUEUED
+9 JOB LAND CANCEL 8 S222 CLUP
+10 JOB LEAVE ESTAE 4 FAIL
+11 JOB LEAVE ESTAE 1 FAIL
+12 JOB ENTER ESTAE 0 S222 CLUP STAF
+13 JOB EXEC KEEP.1 RC=0
+14 JOB LEAVE ESTAE 0 BAD
+15 JOB BEGIN S222
+16 JOB DONE S222
+17 * MEMEND
+END ENDED
+",
+    },
+    Row {
+        name: "a routine with CANCEL=NO that waits holds a cancel back",
+        deck: "MAIN PROG
+ ESTAEX CT,PGM=W,CANCEL=NO
+ ABEND S0C1
+ PEND
+W PROG
+ WAIT 9
+ PEND
+JOB TASK PGM=MAIN
+ OPER
+ CANCEL JOB,AT=100
+ END
+",
+        status: Status::Stalled,
+        trace: "RTMTRACE 1
+0 JOB EXEC MAIN.1 RC=0
+1 JOB ERROR MAIN.2 S0C1
+2 JOB ENTER ESTAE 0 S0C1
+3 JOB ARRIVE 0 QUEUED
+END STALLED
+",
+    },
+    Row {
+        name: "an FRR holds a cancel back, and the second is merged",
+        deck: "MAIN PROG
+ SETFRR A,PGM=F
+ NOP
+ SETFRR D
+ RETURN
+ PEND
+F PROG
+ PEND
+JOB TASK PGM=MAIN
+ OPER
+ CANCEL JOB,AT=1
+ CANCEL JOB,AT=1
+ END
+",
+        status: Status::Fine,
+        trace: "RTMTRACE 1
+0 JOB EXEC MAIN.1 RC=0
+1 JOB ARRIVE 0 QUEUED
+2 JOB ARRIVE 1 MERGED
+3 JOB EXEC MAIN.2 RC=0
+4 JOB EXEC MAIN.3 RC=0
+5 JOB LAND CANCEL 1 S222 CLUP
+6 JOB BEGIN S222
+7 JOB DONE S222
+8 * MEMEND
+END ENDED
+",
+    },
+    Row {
+        name: "a mother that ends before her subtask",
+        deck: "MAIN PROG
+ ATTACHX A
+ PEND
+PA PROG
+ WAIT 3
+ PEND
+JOB TASK PGM=MAIN
+A TASK PGM=PA
+ END
+",
+        status: Status::Fine,
+        trace: "RTMTRACE 1
+0 JOB EXEC MAIN.1 RC=0
+1 JOB BEGIN SA03
+2 A LAND MOTHER 1 S13E CLUP
+3 A BEGIN S13E
+4 A DONE S13E
+5 JOB DONE SA03
+6 * MEMEND
+END ENDED
+",
+    },
+    Row {
+        name: "an abend with STEP=YES ends the job step",
+        deck: "MAIN PROG
+ ATTACHX A
+ WAITT A
+ PEND
+PA PROG
+ ABEND U3,STEP=YES
+ PEND
+JOB TASK PGM=MAIN
+A TASK PGM=PA
+ END
+",
+        status: Status::Fine,
+        trace: "RTMTRACE 1
+0 JOB EXEC MAIN.1 RC=0
+1 A ERROR PA.1 U0003
+2 A BEGIN U0003
+3 A DONE U0003 STEP=QUEUED
+4 JOB LAND STEP 3 U0003 CLUP
+5 JOB BEGIN U0003
+6 JOB DONE U0003
+7 * MEMEND
+END ENDED
+",
+    },
+];

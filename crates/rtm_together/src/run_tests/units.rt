@@ -1,0 +1,186 @@
+//! Several units: tasks with ESTAI routines, and service requests.
+
+use super::Row;
+use rtm_top::Status;
+
+pub static ROWS: [Row; 5] = [
+    Row {
+        name: "an SRB may not link, and is purged with the space",
+        deck: "MAIN PROG
+ SCHEDULE S
+ NOP
+ PEND
+PS PROG
+ SETFRR A,PGM=F
+ LINK F2
+ PEND
+F PROG
+ PEND
+F2 PROG
+ PEND
+JOB TASK PGM=MAIN
+S SRB PGM=PS
+ END
+",
+        status: Status::Fine,
+        trace: "RTMTRACE 1
+0 JOB EXEC MAIN.1 RC=0
+1 S EXEC PS.1 RC=0
+2 JOB EXEC MAIN.2 RC=0
+3 S ERROR PS.2 S0F8
+4 JOB BEGIN S000
+5 S ENTER FRR 1 S0F8
+6 JOB DONE S000
+7 * PURGE S
+8 * MEMEND
+END ENDED
+",
+    },
+    Row {
+        name: "RC=16 of the nearest ESTAI routine stops the others",
+        deck: "MAIN PROG
+ ATTACHX A,ESTAI=E1
+ WAITT A
+ PEND
+PA PROG
+ ATTACHX B,ESTAI=E2
+ WAITT B
+ PEND
+PB PROG
+ ABEND S0C7
+ PEND
+E1 PROG
+ PEND
+E2 PROG
+ SETRP RC=16
+ PEND
+JOB TASK PGM=MAIN
+A TASK PGM=PA
+B TASK PGM=PB
+ END
+",
+        status: Status::Fine,
+        trace: "RTMTRACE 1
+0 JOB EXEC MAIN.1 RC=0
+1 A EXEC PA.1 RC=0
+2 B ERROR PB.1 S0C7
+3 B ENTER ESTAI 1 S0C7
+4 B EXEC E2.1 RC=0
+5 B LEAVE ESTAI 1 STOP
+6 B BEGIN S0C7
+7 B DONE S0C7
+8 A EXEC PA.2 RC=0
+9 A BEGIN S000
+10 A DONE S000
+11 JOB EXEC MAIN.2 RC=0
+12 JOB BEGIN S000
+13 JOB DONE S000
+14 * MEMEND
+END ENDED
+",
+    },
+    Row {
+        name: "ESTAI routines percolate, the nearest first",
+        deck: "MAIN PROG
+ ATTACHX A,ESTAI=E1
+ WAITT A
+ PEND
+PA PROG
+ ATTACHX B,ESTAI=E2
+ WAITT B
+ PEND
+PB PROG
+ ABEND S0C7
+ PEND
+E1 PROG
+ PEND
+E2 PROG
+ PEND
+JOB TASK PGM=MAIN
+A TASK PGM=PA
+B TASK PGM=PB
+ END
+",
+        status: Status::Fine,
+        trace: "RTMTRACE 1
+0 JOB EXEC MAIN.1 RC=0
+1 A EXEC PA.1 RC=0
+2 B ERROR PB.1 S0C7
+3 B ENTER ESTAI 1 S0C7
+4 B LEAVE ESTAI 1 PERC
+5 B ENTER ESTAI 0 S0C7 PERC
+6 B LEAVE ESTAI 0 PERC
+7 B BEGIN S0C7
+8 B DONE S0C7
+9 A EXEC PA.2 RC=0
+10 A BEGIN S000
+11 A DONE S000
+12 JOB EXEC MAIN.2 RC=0
+13 JOB BEGIN S000
+14 JOB DONE S000
+15 * MEMEND
+END ENDED
+",
+    },
+    Row {
+        name: "a task that waits for nothing stalls",
+        deck: "MAIN PROG
+ WAIT 1
+ PEND
+JOB TASK PGM=MAIN
+ END
+",
+        status: Status::Stalled,
+        trace: "RTMTRACE 1
+END STALLED
+",
+    },
+    Row {
+        name: "an SRB's error comes too late for its task",
+        deck: "MAIN PROG
+ ATTACHX T
+ SCHEDULE S
+ WAIT 5
+ NOP
+ NOP
+ PEND
+PT PROG
+ GET ENQ,1
+ PEND
+PS PROG
+ SETFRR A,PGM=F
+ ABEND S0C4
+ PEND
+F PROG
+ POST 5
+ PEND
+JOB TASK PGM=MAIN
+T TASK PGM=PT
+S SRB PGM=PS,TASK=T
+ END
+",
+        status: Status::Fine,
+        trace: "RTMTRACE 1
+0 JOB EXEC MAIN.1 RC=0
+1 T EXEC PT.1 RC=0
+2 JOB EXEC MAIN.2 RC=0
+3 T BEGIN S000
+4 S EXEC PS.1 RC=0
+5 T RELEASE ENQ 1 T
+6 S ERROR PS.2 S0C4
+7 T DONE S000
+8 S ENTER FRR 4 S0C4
+9 S EXEC F.1 RC=0
+10 JOB EXEC MAIN.3 RC=0
+11 S LEAVE FRR 4 PERC
+12 JOB EXEC MAIN.4 RC=0
+13 S BEGIN S0C4
+14 JOB EXEC MAIN.5 RC=0
+15 S DONE S0C4 TASK=LATE
+16 JOB BEGIN S000
+17 JOB DONE S000
+18 * MEMEND
+END ENDED
+",
+    },
+];

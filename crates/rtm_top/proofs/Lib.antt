@@ -1,0 +1,4 @@
+pub mod Complete
+pub mod Saying
+pub mod TooLong
+pub mod Words

@@ -1,0 +1,138 @@
+-- What the parts of a call come to: a status for what was read, made and written.
+use Rattle.std.proofs.Common.{◌≡◌, ℕ, ◌≤◌, Bool, true, false, List, [], Option, Some, None, Result, Ok, Err, refl, sym, ap, subst, ◌∙◌, inl, inr, arith}
+use Rattle.std.specs.Prelude.{IfErr, IfOk, IfSome}
+use Rattle.rtm_io.specs.Faults.{HasRisen}
+use Rattle.rtm_io.specs.Stream.{TakesAtMost}
+use Rattle.rtm_items.specs.View.{DeckView}
+use Rattle.rtm_model.specs.declared.entry.End.{End}
+use Rattle.rtm_model.specs.declared.entry.End.TheVariants.{Ended, Limit, Stalled}
+use Rattle.rtm_top.specs.declared.request.Request.{Request}
+use Rattle.rtm_top.specs.declared.request.Request.TheVariants as requests
+use Rattle.rtm_top.specs.Answer.{Call, IsAnswer, IsDue, IsSent, IsUnread, Says}
+use Rattle.rtm_top_answers.specs.Load.{IsLoadOf}
+use Rattle.rtm_top_answers.specs.Refusal.{IsRefusalOf}
+use Rattle.rtm_top_answers.specs.Status.{status_of}
+use Rattle.rtm_top_answers.specs.Verify.{IsOfTrace}
+use Rattle.rtm_top_answers.specs.View.{AnswerView}
+use Rattle.rtm_top_answers.specs.declared.status.Status.{Status}
+use Rattle.rtm_top_answers.specs.declared.status.Status.TheVariants as status
+
+-- ---- the statuses that an answer never has
+
+is_of_an_answer : Status → Bool
+is_of_an_answer status.Memory = false
+is_of_an_answer status.Read = false
+is_of_an_answer status.Write = false
+is_of_an_answer status.Words = false
+is_of_an_answer _ = true
+
+end_is : (end : End) → is_of_an_answer (status_of end) ≡ true
+unfolding is_of_an_answer
+end_is Ended = refl
+end_is Stalled = refl
+end_is Limit = refl
+
+-- by the equation that an answer's record has
+by : (a b : AnswerView) → a ≡ b → is_of_an_answer b.status ≡ true → is_of_an_answer a.status ≡ true
+by a b e h = ap (λ (x : AnswerView). is_of_an_answer x.status) e ∙ h
+
+of_trace : (d : DeckView) (bytes : List ℕ) (a : AnswerView) → IsOfTrace d bytes a → is_of_an_answer a.status ≡ true
+unfolding is_of_an_answer
+of_trace d bytes a h = elim h [
+  | inl n ↦ by a _ n.is refl
+  | inr j ↦ elim j.judgement [ | inl i ↦ by a _ i.is refl | inr h ↦ elim h [ | inl w ↦ by a _ w.is refl | inr v ↦ by a _ v.is refl ] ]
+]
+
+answer_is : (request : Request) (bytes : List ℕ) (a : AnswerView) → IsAnswer request bytes a → is_of_an_answer a.status ≡ true
+unfolding is_of_an_answer
+answer_is requests.Scan bytes a h = elim h [ | inl r ↦ by a _ r.is refl | inr c ↦ by a _ c.is refl ]
+answer_is requests.Seq bytes a h = elim h [ | inl r ↦ by a _ r.is refl | inr c ↦ by a _ c.run.is (end_is c.run.end) ]
+answer_is requests.Verify bytes a h = elim h [ | inl r ↦ by a _ r.is refl | inr v ↦ of_trace v.deck _ a v.trace ]
+answer_is (requests.Load tasks) bytes a h = by a _ h.is (end_is h.end)
+
+-- a status that no answer has isn't that of the answer
+never : (request : Request) (left : Option (List ℕ)) (a : AnswerView) (s : Status) → IsDue request left a → is_of_an_answer s ≡ false → a.status ≡ s → ⊥
+never request left a s due other e = true_false (sym (answer_is request due.0 a due.2) ∙ ap is_of_an_answer e ∙ other)
+  where
+    true_false : true ≡ false → ⊥
+    true_false x = absurd cc
+
+-- a written answer's status is none of those, but for Write
+sent_is_no : (request : Request) (left : Option (List ℕ)) (a : AnswerView) (before now : ℕ) (old new : Option (List ℕ)) (s other : Status) → IsDue request left a → IsSent a before now old new s
+    → is_of_an_answer other ≡ false → (status.Write ≡ other → ⊥) → s ≡ other → ⊥
+sent_is_no request left a before now old new s other due sent unlike differs e = elim sent [
+  | inl h ↦ never request left a other due unlike (sym h.0 ∙ e)
+  | inr h ↦ differs (sym h.0 ∙ e)
+]
+
+pub sent_is_not_read : (request : Request) (left : Option (List ℕ)) (a : AnswerView) (before now : ℕ) (old new : Option (List ℕ)) (s : Status) → IsDue request left a → IsSent a before now old new s
+    → s ≡ status.Read → ⊥
+unfolding is_of_an_answer
+sent_is_not_read request left a before now old new s due sent = sent_is_no request left a before now old new s status.Read due sent refl (λ e. absurd cc)
+
+pub sent_is_not_memory : (request : Request) (left : Option (List ℕ)) (a : AnswerView) (before now : ℕ) (old new : Option (List ℕ)) (s : Status) → IsDue request left a → IsSent a before now old new s
+    → s ≡ status.Memory → ⊥
+unfolding is_of_an_answer
+sent_is_not_memory request left a before now old new s due sent = sent_is_no request left a before now old new s status.Memory due sent refl (λ e. absurd cc)
+
+pub sent_is_not_words : (request : Request) (left : Option (List ℕ)) (a : AnswerView) (before now : ℕ) (old new : Option (List ℕ)) (s : Status) → IsDue request left a → IsSent a before now old new s
+    → s ≡ status.Words → ⊥
+unfolding is_of_an_answer
+sent_is_not_words request left a before now old new s due sent = sent_is_no request left a before now old new s status.Words due sent refl (λ e. absurd cc)
+
+-- ---- what a call says
+
+pub says_sent : (request : Request) (call : Call) (a : AnswerView) (s : Status) → IsDue request call.left a → call.source_now ≡ call.source_before
+    → IsSent a call.sink_before call.sink_now call.written_before call.written_now s → Says request call s
+says_sent request call a s due source sent = elim sent [
+  | inl h ↦ inl (record { answer = a; due = due; its_status = h.0; written = h.1; source = source; sink = h.2 })
+  | inr h ↦ inr (inl (record { is_write = h.0; answer = a; due = due; written = h.1; source = source; sink = h.2 }))
+]
+
+pub says_unread : (request : Request) (call : Call) (s : Status) → IsUnread call.source_before call.source_now s → call.written_now ≡ call.written_before → call.sink_now ≡ call.sink_before
+    → Says request call s
+says_unread request call s unread written sink = elim unread [
+  | inl h ↦ inr (inr (inl (record { is_read = h.0; written = written; source = h.1; sink = sink })))
+  | inr h ↦ inr (inr (inr (record { is_memory = h.0; written = written; source = h.1; sink = sink })))
+]
+
+pub unread_is_not_words : (before now : ℕ) (s : Status) → IsUnread before now s → s ≡ status.Words → ⊥
+unread_is_not_words before now s unread e = elim unread [ | inl h ↦ clash_read (sym h.0 ∙ e) | inr h ↦ clash_memory (sym h.0 ∙ e) ]
+  where
+    clash_read : status.Read ≡ status.Words → ⊥
+    clash_read x = absurd cc
+    clash_memory : status.Memory ≡ status.Words → ⊥
+    clash_memory x = absurd cc
+
+pub says_same : (a b : Request) (call : Call) (s : Status) → a ≡ b → Says a call s → Says b call s
+says_same a b call s e h = subst (λ (r : Request). Says r call s) e h
+
+-- ---- what is made without reading
+
+pub due_load : {E : Type 0} (request : Request) (tasks : ℕ) (left : Option (List ℕ)) (r : Result AnswerView E) → request ≡ requests.Load tasks → IfOk r (IsLoadOf tasks) → IfOk r (IsDue request left)
+due_load request tasks None (Ok a) e h = ([], tt, subst (λ (q : Request). IsAnswer q [] a) (sym e) h)
+due_load request tasks (Some bytes) (Ok a) e h = (bytes, refl, subst (λ (q : Request). IsAnswer q bytes a) (sym e) h)
+due_load request tasks left (Err x) e h = tt
+
+-- a source that wasn't called has given nothing
+pub takes_none : (most : ℕ) (left : Option (List ℕ)) → TakesAtMost most left left
+takes_none most None = (0, omega arith, refl)
+takes_none most (Some bytes) = (0, omega arith, refl)
+
+-- ---- what is made of the bytes that were read
+
+pub due_read : {E : Type 0} (request : Request) (bytes : List ℕ) (left : Option (List ℕ)) (r : Result AnswerView E) → IfSome left (λ told. bytes ≡ told) → IfOk r (IsAnswer request bytes)
+    → IfOk r (IsDue request left)
+due_read request bytes left (Ok a) all h = (bytes, all, h)
+due_read request bytes left (Err x) all h = tt
+
+-- why nothing is written
+pub unread_for_memory : {A : Type 0} (before now : ℕ) (r : Result A Status) → IfErr r (λ s. s ≡ status.Memory) → now ≡ before → IfErr r (IsUnread before now)
+unread_for_memory before now (Ok a) h e = tt
+unread_for_memory before now (Err s) h e = inr (h, e)
+
+pub unread_by_memory : (before now : ℕ) → now ≡ before → IsUnread before now status.Memory
+unread_by_memory before now e = inr (refl, e)
+
+pub unread_by_read : (before now : ℕ) → HasRisen before now → IsUnread before now status.Read
+unread_by_read before now h = inl (refl, h)

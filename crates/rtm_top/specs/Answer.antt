@@ -1,0 +1,83 @@
+-- What a call of the program says by its status (this profile).
+use Rattle.std.specs.Prelude.{IfSome, List, Option, ℕ, ◌≡◌, ◌⊎◌}
+use Rattle.rtm_io.specs.Faults.{HasRisen}
+use Rattle.rtm_io.specs.Stream.{Appends, AppendsPrefix}
+use Rattle.rtm_top_answers.specs.Load.{IsLoadOf}
+use Rattle.rtm_top_answers.specs.Run.{IsSeqAnswer}
+use Rattle.rtm_top_answers.specs.Scan.{IsScanAnswer}
+use Rattle.rtm_top_answers.specs.Verify.{IsVerifyAnswer}
+use Rattle.rtm_top_answers.specs.View.{AnswerView}
+use Rattle.rtm_top_answers.specs.declared.status.Status.{Status}
+use Rattle.rtm_top_answers.specs.declared.status.Status.TheVariants as status
+use Rattle.rtm_top.specs.declared.request.Request.{Request}
+use Rattle.rtm_top.specs.declared.request.Request.TheVariants as requests
+
+-- what is to be written of the bytes that were read; a load is made of its number alone
+abbrev pub IsAnswer : Request → List ℕ → AnswerView → Type 0
+IsAnswer requests.Scan bytes answer = IsScanAnswer bytes answer
+IsAnswer requests.Seq bytes answer = IsSeqAnswer bytes answer
+IsAnswer requests.Verify bytes answer = IsVerifyAnswer bytes answer
+IsAnswer (requests.Load tasks) bytes answer = IsLoadOf tasks answer
+
+-- the same of all bytes that the source had left; of a source that tells none, of some bytes
+abbrev pub IsDue : Request → Option (List ℕ) → AnswerView → Type 0
+IsDue request left answer = (bytes : List ℕ) × IfSome left (λ told. bytes ≡ told) × IsAnswer request bytes answer
+
+-- a call of the program: what the source had left, the faults that source and sink had counted before and have now, and what
+-- was written before and is now
+pub record Call : Type 0 where
+  pub left : Option (List ℕ)
+  pub source_before : ℕ
+  pub source_now : ℕ
+  pub sink_before : ℕ
+  pub sink_now : ℕ
+  pub written_before : Option (List ℕ)
+  pub written_now : Option (List ℕ)
+
+-- The answer that is due was written, all of it, and the status is its own. No fault was counted.
+pub record HasAnswered (request : Request) (call : Call) (s : Status) : Type 0 where
+  pub answer : AnswerView
+  pub due : IsDue request call.left answer
+  pub its_status : s ≡ answer.status
+  pub written : Appends call.written_before call.written_now answer.text
+  pub source : call.source_now ≡ call.source_before
+  pub sink : call.sink_now ≡ call.sink_before
+
+-- The sink failed: a prefix of the answer that is due stands written. The source counted no fault.
+pub record HasFailedToWrite (request : Request) (call : Call) (s : Status) : Type 0 where
+  pub is_write : s ≡ status.Write
+  pub answer : AnswerView
+  pub due : IsDue request call.left answer
+  pub written : AppendsPrefix call.written_before call.written_now answer.text
+  pub source : call.source_now ≡ call.source_before
+  pub sink : HasRisen call.sink_before call.sink_now
+
+-- The source failed: nothing was written, and the sink counted no fault.
+pub record HasFailedToRead (call : Call) (s : Status) : Type 0 where
+  pub is_read : s ≡ status.Read
+  pub written : call.written_now ≡ call.written_before
+  pub source : HasRisen call.source_before call.source_now
+  pub sink : call.sink_now ≡ call.sink_before
+
+-- Memory is wanting: nothing was written, and no fault was counted.
+pub record WantsMemory (call : Call) (s : Status) : Type 0 where
+  pub is_memory : s ≡ status.Memory
+  pub written : call.written_now ≡ call.written_before
+  pub source : call.source_now ≡ call.source_before
+  pub sink : call.sink_now ≡ call.sink_before
+
+-- what the status says of a call with that request
+abbrev pub Says : Request → Call → Status → Type 0
+Says request call s =
+    HasAnswered request call s ⊎ (HasFailedToWrite request call s ⊎ (HasFailedToRead call s ⊎ WantsMemory call s))
+
+-- why nothing is to be written; the numbers are the source's faults before and now
+abbrev pub IsUnread : ℕ → ℕ → Status → Type 0
+IsUnread before now s = ((s ≡ status.Read) × HasRisen before now) ⊎ ((s ≡ status.Memory) × (now ≡ before))
+
+-- How the writing of an answer went: all of it is written and the status is its own, or the sink failed and a prefix is. The
+-- numbers are the sink's faults before and now.
+abbrev pub IsSent : AnswerView → ℕ → ℕ → Option (List ℕ) → Option (List ℕ) → Status → Type 0
+IsSent answer before now written_before written_now s =
+    ((s ≡ answer.status) × Appends written_before written_now answer.text × (now ≡ before))
+    ⊎ ((s ≡ status.Write) × AppendsPrefix written_before written_now answer.text × HasRisen before now)

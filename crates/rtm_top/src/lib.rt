@@ -1,0 +1,12 @@
+//! The top call: all that the program does, over a source and a sink.
+#![tactic(auto)]
+
+mod outcome;
+mod request;
+mod top;
+mod word;
+
+pub use outcome::Outcome;
+pub use rtm_top_answers::Status;
+pub use top::plain_words;
+pub use word::RtmWord;

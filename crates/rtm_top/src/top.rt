@@ -1,0 +1,194 @@
+//! The top call: all that the program does, over a source and a sink.
+
+ghost use Rattle.std.specs.Prelude.{◌≡◌, ◌≢◌, ◌↔◌, ◌≤◌, ◌+◌, ℕ, IfOk, IfErr, OnOk, OnErr, length};
+ghost use Rattle.rtm_io.specs.Stream.{TakesAtMost};
+ghost use Rattle.rtm_items.specs.Faults.{IsFirstFault};
+ghost use Rattle.rtm_top.specs.Answer.{IsAnswer, IsDue, IsSent, IsUnread, Says};
+ghost use Rattle.rtm_top.specs.Due.{AnswersWords};
+ghost use Rattle.rtm_top.specs.Request.{AreUnknown, IsRequest, Reads, words_of};
+ghost use Rattle.rtm_top.specs.declared.request.Request.{Request};
+ghost use Rattle.rtm_top_answers.specs.Load.{IsLoadOf};
+ghost use Rattle.rtm_top_answers.specs.Refusal.{refusal};
+
+use crate::outcome::Outcome;
+use crate::request::{Request, request_of};
+use crate::word::RtmWord;
+use rtm_codes::NoMemory;
+use rtm_io::{InFault, Sink, Source, read_all, write_all};
+use rtm_items::Why;
+use rtm_top_answers::{Answer, Status, load_answer, refusal, scan_answer, seq_answer, verify_answer};
+use std::alloc::Global;
+
+/// At most this many bytes are read (this profile).
+const INPUT_LIMIT: usize = 16_777_216;
+
+// Want of memory is the status Memory.
+fn or_memory(answer: Result<Answer, NoMemory>) -> Result<Answer, Status>
+    ensures ok { IfOk result (λ made. answer ≡ Ok made) }
+    ensures err { IfErr result (λ status. status ≡ Status.Memory) }
+{
+    match answer {
+        Ok(answer) => Ok(answer),
+        Err(NoMemory) => Err(Status::Memory),
+    }
+}
+
+// What is to be written of the bytes that were read.
+fn answer_of(alloc: Global, request: Request, bytes: &[u8]) -> Result<Answer, Status>
+    requires reads { Reads request }
+    requires few { length bytes.now ≤ 16777216 }
+    ensures ok { IfOk result (IsAnswer request bytes.now) }
+    ensures err { IfErr result (λ status. status ≡ Status.Memory) }
+{
+    let answer = match request {
+        Request::Scan => scan_answer(alloc, bytes),
+        Request::Seq => seq_answer(alloc, bytes),
+        Request::Verify => verify_answer(alloc, bytes),
+        Request::Load(_) => unreachable!("a load reads nothing"),
+    };
+    or_memory(answer)
+}
+
+// What is to be written where more bytes came than are read, the first of them too many on that card.
+fn refused(alloc: Global, card: u32) -> Result<Answer, Status>
+    ensures ok { IfOk result (λ answer. answer ≡ refusal card Why.TooLong) }
+    ensures err { IfErr result (λ status. status ≡ Status.Memory) }
+{
+    or_memory(refusal(alloc, card, Why::TooLong))
+}
+
+// Reads all bytes, and makes what is to be written of them.
+#[tactic(auto, using(crate::proofs::TooLong::of_fault, crate::proofs::Saying::due_read, crate::proofs::Saying::unread_for_memory, crate::proofs::Saying::unread_by_memory, crate::proofs::Saying::unread_by_read))]
+fn read_answer<S: Source>(alloc: Global, request: Request, src: &mut S) -> Result<Answer, Status>
+    requires { Reads request }
+    ensures ok { IfOk result (IsDue request (S.left src.old)) }
+    ensures err { IfErr result (IsUnread (S.faults src.old) (S.faults src.new)) }
+    ensures counted { OnOk result (S.faults src.new ≡ S.faults src.old) }
+    ensures front { TakesAtMost 16777217 (S.left src.old) (S.left src.new) }
+    ensures later { S.faults src.old ≤ S.faults src.new }
+{
+    match read_all(alloc, src, INPUT_LIMIT) {
+        Ok(bytes) => answer_of(alloc, request, &bytes),
+        Err(InFault::TooLong { line }) => refused(alloc, line),
+        Err(InFault::Memory) => Err(Status::Memory),
+        Err(InFault::Read) => Err(Status::Read),
+    }
+}
+
+// Makes what is to be written of a load.
+fn load_made(alloc: Global, tasks: u8) -> Result<Answer, Status>
+    requires { IsRequest (Request.Load tasks) }
+    ensures ok { IfOk result (IsLoadOf tasks) }
+    ensures err { IfErr result (λ status. status ≡ Status.Memory) }
+{
+    or_memory(load_answer(alloc, tasks))
+}
+
+// Makes what is to be written. A load leaves the source alone.
+#[tactic(auto, using(crate::proofs::Saying::due_load, crate::proofs::Saying::takes_none, crate::proofs::Saying::unread_for_memory))]
+fn make_answer<S: Source>(alloc: Global, request: Request, src: &mut S) -> Result<Answer, Status>
+    requires { IsRequest request }
+    ensures ok { IfOk result (IsDue request (S.left src.old)) }
+    ensures err { IfErr result (IsUnread (S.faults src.old) (S.faults src.new)) }
+    ensures counted { OnOk result (S.faults src.new ≡ S.faults src.old) }
+    ensures untouched { (tasks : ℕ) → request ≡ Request.Load tasks → src.new ≡ src.old }
+    ensures front { TakesAtMost 16777217 (S.left src.old) (S.left src.new) }
+    ensures later { S.faults src.old ≤ S.faults src.new }
+{
+    match request {
+        Request::Load(tasks) => load_made(alloc, tasks),
+        _ => read_answer(alloc, request, src),
+    }
+}
+
+// Writes the answer, and says with which status the call ends.
+fn write_answer<K: Sink>(out: &mut K, answer: &Answer) -> Status
+    ensures sent { IsSent answer.now (K.faults out.old) (K.faults out.new) (K.written out.old) (K.written out.new) result }
+    ensures later { K.faults out.old ≤ K.faults out.new }
+{
+    match write_all(out, &answer.text) {
+        Ok(()) => answer.status,
+        Err(_) => Status::Write,
+    }
+}
+
+/// Does what the words say, and nothing else: `scan` reads a deck from the source and writes its canonical text, `seq`
+/// runs it on one thread and writes its trace; `verify` reads a deck and the trace that follows it, and judges the trace;
+/// `load n` runs a deck that is made of n tasks, 1 to 60, and writes how many entries and releases its run has. It reads
+/// nothing.
+///
+/// An input that spells no deck is refused with its first fault; one of more than 16,777,216 bytes is too long. Of a
+/// trace the first bad line is named, else the first entry that may not stand where it does with the one that was wanted,
+/// else the end where it is another than stated.
+pub fn plain_words<S: Source, K: Sink>(
+    alloc: Global,
+    words: &[RtmWord],
+    src: &mut S,
+    out: &mut K,
+) -> Outcome
+    // Words comes exactly where the words are none that are known, and then nothing was read and nothing written.
+    ensures words { (result.status ≡ Status.Words) ↔ AreUnknown words.now }
+    ensures source { result.status ≡ Status.Words → src.new ≡ src.old }
+    ensures sink { result.status ≡ Status.Words → out.new ≡ out.old }
+
+    // A load reads nothing.
+    ensures load { (tasks : ℕ) → IsRequest (Request.Load tasks) → words.now ≡ words_of (Request.Load tasks)
+        → src.new ≡ src.old }
+
+    // Where the source failed or memory is wanting, the sink is as it was.
+    ensures read { result.status ≡ Status.Read → out.new ≡ out.old }
+    ensures memory { result.status ≡ Status.Memory → out.new ≡ out.old }
+
+    // Whatever the status: the source gave one byte more than are read, at most, and no count of faults fell.
+    ensures front { TakesAtMost 16777217 (S.left src.old) (S.left src.new) }
+    ensures later { S.faults src.old ≤ S.faults src.new }
+    ensures sink_later { K.faults out.old ≤ K.faults out.new }
+
+    // What the status says of what was read and written, and that it is the one that is due where no count of faults rose
+    // and memory isn't refused.
+    ensures answer { AnswersWords words.now (record {
+      left = S.left src.old;
+      source_before = S.faults src.old;
+      source_now = S.faults src.new;
+      sink_before = K.faults out.old;
+      sink_now = K.faults out.new;
+      written_before = K.written out.old;
+      written_now = K.written out.new;
+    }) result.status }
+{
+    match request_of(words) {
+        None => Outcome {
+            status: Status::Words,
+        },
+        Some(request) => Outcome {
+            status: status_after(alloc, request, src, out),
+        },
+    }
+}
+
+// Does what is asked for, and answers the status.
+#[tactic(auto, using(crate::proofs::Saying::says_sent, crate::proofs::Saying::says_unread, crate::proofs::Saying::sent_is_not_read, crate::proofs::Saying::sent_is_not_memory, crate::proofs::Saying::sent_is_not_words, crate::proofs::Saying::unread_is_not_words))]
+fn status_after<S: Source, K: Sink>(alloc: Global, request: Request, src: &mut S, out: &mut K) -> Status
+    requires { IsRequest request }
+    ensures known { result ≢ Status.Words }
+    ensures untouched { (tasks : ℕ) → request ≡ Request.Load tasks → src.new ≡ src.old }
+    ensures read { result ≡ Status.Read → out.new ≡ out.old }
+    ensures memory { result ≡ Status.Memory → out.new ≡ out.old }
+    ensures front { TakesAtMost 16777217 (S.left src.old) (S.left src.new) }
+    ensures later { S.faults src.old ≤ S.faults src.new }
+    ensures sink_later { K.faults out.old ≤ K.faults out.new }
+    ensures answer { Says request (record {
+      left = S.left src.old;
+      source_before = S.faults src.old;
+      source_now = S.faults src.new;
+      sink_before = K.faults out.old;
+      sink_now = K.faults out.new;
+      written_before = K.written out.old;
+      written_now = K.written out.new;
+    }) result }
+{
+    match make_answer(alloc, request, src) {
+        Err(status) => status,
+        Ok(answer) => write_answer(out, &answer),
+    }
+}

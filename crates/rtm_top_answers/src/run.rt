@@ -1,0 +1,64 @@
+//! What is written of a deck that is run on one thread.
+
+ghost use Rattle.std.specs.Prelude.{◌≡◌, IfOk, IsSome};
+ghost use Rattle.rtm_model.specs.Legal.{Legal, end_of};
+ghost use Rattle.rtm_model.specs.Turns.{seq};
+ghost use Rattle.rtm_top_answers.specs.Run.{IsRunBy, IsSeqAnswer, traced};
+
+use crate::answer::Answer;
+use crate::refusals::refusal;
+use crate::status::Status;
+use rtm_board::all_notes;
+use rtm_codes::NoMemory;
+use rtm_crew::seq_run;
+use rtm_deck::{DeckFault, read_deck};
+use rtm_items::Deck;
+use rtm_model::End;
+use rtm_system::System;
+use rtm_trace::trace_text;
+use std::alloc::Global;
+
+/// A system of the deck that has run on one thread, to its end.
+pub(crate) fn system_after_run(alloc: Global, deck: Deck) -> Result<System, NoMemory>
+    ensures deck { IfOk result (λ system. system.deck ≡ deck) }
+    ensures trace { IfOk result (λ system. system.trace ≡ seq deck) }
+    ensures end { IfOk result (λ system. IsSome (end_of deck system.trace)) }
+{
+    let mut notes = all_notes(alloc, &deck)?;
+    let mut system = System::new(alloc, deck)?;
+    seq_run(&mut system, &mut notes);
+    Ok(system)
+}
+
+// The trace of a system, to its end.
+fn traced(alloc: Global, system: &System, end: End) -> Result<Answer, NoMemory>
+    ensures { IfOk result (λ answer. answer ≡ traced system.now.deck system.now.trace end) }
+{
+    Ok(Answer {
+        text: trace_text(alloc, system.deck(), system.trace(), end)?,
+        status: Status::of_end(end),
+    })
+}
+
+// What is written of a deck that is run.
+#[tactic(auto, using(crate::proofs::Answers::run_by))]
+fn run_answer(alloc: Global, deck: Deck) -> Result<Answer, NoMemory>
+    ensures { IfOk result (IsRunBy deck (seq deck)) }
+{
+    let system = system_after_run(alloc, deck)?;
+    let end = system.end().unwrap();
+    system.trace();
+    traced(alloc, &system, end)
+}
+
+/// What is to be written for the bytes of a deck under the word `seq`: the trace of its run, or its first fault.
+#[tactic(auto, using(crate::proofs::Answers::run_deck, crate::proofs::Answers::run_fault))]
+pub fn seq_answer(alloc: Global, bytes: &[u8]) -> Result<Answer, NoMemory>
+    ensures { IfOk result (IsSeqAnswer bytes.now) }
+{
+    match read_deck(alloc, bytes) {
+        Ok(deck) => run_answer(alloc, deck),
+        Err(DeckFault::Memory) => Err(NoMemory),
+        Err(DeckFault::Refused { card, why }) => refusal(alloc, card, why),
+    }
+}
