@@ -1,0 +1,110 @@
+"""Asking the built rtmrun. All that `rtm` says of a deck or a trace was asked here first."""
+
+from __future__ import annotations
+
+import os
+import subprocess
+from dataclasses import dataclass
+from pathlib import Path
+from typing import List, Optional, Tuple
+
+from .deck import read_deck
+from .failures import (BAD_LINE, CANNOT_READ, DECK_REFUSED, Failure, NO_PROGRAM, NOT_LEGAL, OK, WRONG_END)
+
+REPOSITORY = Path(__file__).resolve().parents[2]
+BUILT = REPOSITORY / "crates" / "rtmrun" / "out" / "rtmrun"
+HOW_TO_BUILD = "cd crates/rtmrun && rt run"
+# The endings of a run that was written: ended, stalled, at the limit of entries.
+RUN_WRITTEN = (0, 4, 6)
+
+
+@dataclass(frozen=True)
+class Verdict:
+    """What `verify` says of a trace: its line, its status, and how many entries stand before the first wrong one."""
+
+    line: str
+    status: int
+    legal: int
+
+    @property
+    def is_legal(self) -> bool:
+        return self.status == OK
+
+
+@dataclass(frozen=True)
+class Rtmrun:
+    """The program, by its path."""
+
+    path: Path
+
+    def ask(self, words: List[str], text: bytes) -> Tuple[int, bytes]:
+        """Runs the program with these words over this input."""
+        try:
+            done = subprocess.run([str(self.path)] + words, input=text, stdout=subprocess.PIPE,
+                                  stderr=subprocess.PIPE, check=False)
+        except OSError as trouble:
+            raise Failure("%s can't be run: %s" % (self.path, trouble.strerror), NO_PROGRAM) from None
+        return done.returncode, done.stdout
+
+    def run(self, deck: bytes) -> bytes:
+        """The trace of a deck, as one thread makes it."""
+        status, written = self.ask(["seq"], deck)
+        if status in RUN_WRITTEN:
+            return written
+        raise refusal(deck, status, written)
+
+    def verify(self, deck: bytes, trace: bytes) -> Verdict:
+        """Whether the machine may make this trace of this deck, and how far."""
+        if not deck.endswith(b"\n"):
+            deck += b"\n"
+        status, written = self.ask(["verify"], deck + trace)
+        line = written.decode("latin-1").strip("\n")
+        words = line.split(" ")
+        entries = max(0, len(trace.split(b"\n")) - 3)
+        if status == OK and words[0] == "VERIFIED":
+            return Verdict(line, status, int(words[1]))
+        if status == WRONG_END:
+            return Verdict(line, status, entries)
+        if status == NOT_LEGAL:
+            return Verdict(line, status, int(words[1]))
+        if status == BAD_LINE:
+            return Verdict(line, status, self.before_bad_line(deck, trace, int(words[1])))
+        raise refusal(deck, status, written)
+
+    def before_bad_line(self, deck: bytes, trace: bytes, bad: int) -> int:
+        """How many entries before a bad line are legal: the lines before it are asked again, with an end put behind."""
+        if bad < 2:
+            return 0
+        before = b"\n".join(trace.split(b"\n")[:bad - 1]) + b"\nEND STALLED\n"
+        status, written = self.ask(["verify"], deck + before)
+        words = written.decode("latin-1").split()
+        if status == NOT_LEGAL:
+            return int(words[1])
+        return bad - 2 if status in (OK, WRONG_END) else 0
+
+
+def refusal(deck: bytes, status: int, written: bytes) -> Failure:
+    """What to say where the program wrote no run and no verdict."""
+    line = written.decode("latin-1").strip("\n")
+    if status == DECK_REFUSED:
+        words = line.split(" ")
+        lines = read_deck(deck).lines
+        number = int(words[1]) if len(words) > 1 and words[1].isdigit() else 0
+        card = lines[number - 1] if 0 < number <= len(lines) else ""
+        return Failure("the deck is refused: %s%s" % (line, "\n  %s" % card if card else ""), DECK_REFUSED)
+    return Failure("rtmrun ended with status %d: %s" % (status, line or "it wrote nothing"), status or CANNOT_READ)
+
+
+def place_of(named: Optional[str]) -> Path:
+    """Where the program should be: as the option says, or RTMRUN, or where the build leaves it."""
+    return Path(named or os.environ.get("RTMRUN") or BUILT)
+
+
+def find(named: Optional[str] = None) -> Rtmrun:
+    """The program, or a failure that says how to build it."""
+    path = place_of(named)
+    if path.is_file() and os.access(str(path), os.X_OK):
+        return Rtmrun(path)
+    raise Failure("rtmrun isn't there: no program at %s.\nIt is built by: %s\n"
+                  "Or name one by --rtmrun PATH or by the environment variable RTMRUN."
+                  % (path, HOW_TO_BUILD), NO_PROGRAM)

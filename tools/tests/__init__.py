@@ -1,0 +1,1 @@
+"""Tests of the companion `rtm`; run by tools/check."""

@@ -1,0 +1,113 @@
+"""The word `sweep`: which decks it makes, what it says of each moment, and that a plan gathers to the same table."""
+
+from __future__ import annotations
+
+import json
+import shlex
+import subprocess
+import tempfile
+import unittest
+from pathlib import Path
+from typing import List
+
+from rtm_lib.failures import Failure
+from rtm_lib.moments import prepare
+
+from .decks import random_deck
+from .support import EXAMPLES, WithProgram, run_companion
+
+CANCEL = EXAMPLES / "cancel.deck"
+SMALL = b"MAIN PROG\n NOP\n PEND\nJOB TASK PGM=MAIN\n END\n"
+RANDOM_DECKS = 5
+
+
+class PrepareTest(unittest.TestCase):
+    """The deck of a moment."""
+
+    def test_the_decks_own_command_moves(self) -> None:
+        swept = prepare(CANCEL.read_bytes(), None)
+        self.assertEqual((swept.command, swept.unit, swept.number), ("CANCEL DBJOB", "DBJOB", 0))
+        self.assertIn(b" OPER\n CANCEL DBJOB,AT=4\n END\n", swept.at(4))
+        self.assertNotIn(b"AT=9", swept.at(4))
+
+    def test_a_command_is_put_in_and_said(self) -> None:
+        swept = prepare(SMALL, "CANCEL JOB,DUMP=YES")
+        self.assertTrue(swept.at(1).endswith(b"JOB TASK PGM=MAIN\n OPER\n CANCEL JOB,DUMP=YES,AT=1\n END\n"))
+        self.assertIn("and an OPER card before it", swept.said)
+
+    def test_the_last_of_64_commands_is_left_out_and_said(self) -> None:
+        full = SMALL.replace(b" END", b" OPER\n" + b" CANCEL JOB\n" * 64 + b" END")
+        swept = prepare(full.replace(b"JOB TASK", b"JOB TASK PGM=MAIN\nB TASK"), "CANCEL B")
+        self.assertEqual(swept.number, 63)
+        self.assertEqual(swept.at(0).count(b"CANCEL"), 64)
+        self.assertIn("left out", " ".join(swept.said))
+
+    def test_what_stands_behind_end_is_left_out_and_said(self) -> None:
+        swept = prepare(SMALL + b"RTMTRACE 1\n", None)
+        self.assertNotIn(b"RTMTRACE", swept.at(0))
+        self.assertIn("END card", swept.said[0])
+
+    def test_other_commands_are_refused(self) -> None:
+        for command in ("", "NOP", "CANCEL", "STOP JOB"):
+            with self.assertRaises(Failure):
+                prepare(SMALL, command)
+
+
+class SweepTest(WithProgram):
+    """What it prints."""
+
+    def sweep(self, *words: str, text: bytes = b"", status: int = 0) -> str:
+        done = run_companion("sweep", *words, text=text)
+        self.assertEqual(done.returncode, status, done.stderr)
+        return done.stdout.decode()
+
+    def test_the_table_of_an_example(self) -> None:
+        lines = self.sweep(str(CANCEL)).splitlines()
+        self.assertEqual(lines[0], "CANCEL DBJOB at 21 moments, in the order of one thread")
+        self.assertTrue(lines[3].startswith("CLEANUP is entered at 12 of 21 moments; not at 0: it landed in UPDATE;"))
+        self.assertIn("not at 11 to 15: it landed inside CLEANUP, which failed", lines[3])
+        self.assertIn("2 moments", self.sweep(str(CANCEL), "--from", "3", "--to", "4"))
+        cells = [line.split("  ")[0] for line in lines[6:]]
+        self.assertEqual(cells, ["0", "1 to 3", "4", "5 to 6", "7", "8 to 10", "11 to 12", "13 to 15", "16 to 17",
+                                 "18 to 20"])
+
+    def test_a_required_routine(self) -> None:
+        self.sweep(str(CANCEL), "--require", "CLEANUP", status=1)
+        self.sweep(str(CANCEL), "--require", "CLEANUP", "--from", "1", "--to", "10")
+        self.sweep(str(CANCEL), "--require", "NOBODY", status=20)
+        self.sweep(str(CANCEL), "--from", "500", status=20)
+        self.sweep(str(EXAMPLES / "stall.deck"), "--command", "CANCEL READER", "--require", "READREC", status=1)
+
+    def test_each_moment_is_what_its_run_shows(self) -> None:
+        for seed in range(1, RANDOM_DECKS + 1):
+            found = run_companion("sweep", "-", "--json", "--jobs", "2", "--to", "24", text=random_deck(seed))
+            self.assertEqual(found.returncode, 0, found.stderr)
+            report = json.loads(found.stdout)
+            swept = prepare(random_deck(seed), None)
+            self.assertEqual([moment["at"] for moment in report["moments"]], list(range(len(report["moments"]))))
+            for moment in report["moments"][::3]:
+                trace = self.rtmrun.run(swept.at(moment["at"])).decode().splitlines()
+                landed = [line.split()[0] for line in trace if " %s LAND CANCEL %s " % (
+                    swept.unit, moment["arrived"]) in line]
+                self.assertEqual(landed, [] if moment["landed"] is None else [str(moment["landed"])], (seed, moment))
+
+    def test_a_plan_gathers_to_the_same_table(self) -> None:
+        some = (str(CANCEL), "--from", "9", "--to", "13")
+        jobs = [shlex.split(line) for line in self.sweep(*some, "--plan").splitlines()]
+        self.assertEqual(len(jobs), 5)
+        printed: List[bytes] = [subprocess.run(job, stdout=subprocess.PIPE, check=True).stdout
+                                for job in reversed(jobs)]
+        self.assertEqual(self.sweep("-", "--gather", text=b"".join(printed)), self.sweep(*some))
+        self.sweep("-", "--gather", text=b"no line of a job\n", status=16)
+
+    def test_the_page_has_a_row_for_each_moment(self) -> None:
+        page = self.sweep(str(CANCEL), "--html")
+        self.assertEqual(page.count('<th scope="row">'), 21)
+        self.assertEqual(page.count('class="cell perc">PERC</b></td>'), 12)
+        self.assertNotIn("http", page)
+
+    def test_a_file_is_written(self) -> None:
+        with tempfile.TemporaryDirectory() as folder:
+            written = Path(folder) / "sweep.txt"
+            self.sweep(str(CANCEL), "-o", str(written))
+            self.assertEqual(written.read_text(encoding="utf-8"), self.sweep(str(CANCEL)))
