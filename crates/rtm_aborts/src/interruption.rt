@@ -1,3 +1,5 @@
+//! Whether a pending abort may land.
+
 ghost use Rattle.std.specs.Prelude.{◌≡◌};
 ghost use Rattle.rtm_model.specs.Aborts.{is_interruptible};
 

@@ -1,3 +1,5 @@
+//! The aborts that are pending for a unit.
+
 ghost use Rattle.std.specs.Prelude.{◌≡◌, ◌<◌, [], ◌∷◌, ◌++◌, length};
 ghost use Rattle.rtm_model.specs.Aborts.{is_same_class, is_of_class, has_class, fate_of, with_abort, first_abort, after_landing, HasDistinctClasses};
 
@@ -6,10 +8,10 @@ use rtm_codes::Code;
 use rtm_model::{Abort, Class, Fate};
 use std::marker::Model;
 
-/// One abort of each class.
+// One abort of each class.
 const MOST_ABORTS: usize = 6;
 
-/// A place of the list: an abort, or a blank where the list has none.
+// A place of the list: an abort, or a blank where the list has none.
 #[derive(Clone, Copy)]
 struct Posted {
     abort: Abort,
@@ -97,7 +99,7 @@ fn first_abort(list: &[Posted]) -> Option<Abort>
     }
 }
 
-/// One more abort, the last.
+// One more abort, the last.
 fn add(list: &mut ArrayVec<Posted, MOST_ABORTS>, abort: Abort)
     requires { length list.old.items < 6 }
     ensures { list.new.items ≡ list.old.items ++ abort ∷ [] }

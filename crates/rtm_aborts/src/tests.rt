@@ -1,3 +1,5 @@
+//! Which aborts land, and in which order.
+
 use crate::{Abort, Class, Fate, Pending, interruptible};
 use rtm_codes::Code;
 
@@ -28,7 +30,7 @@ enum Step {
     DropAll,
 }
 
-/// Does the step, and tells the fate of what is posted and the entry that posted what lands.
+// Does the step, and tells the fate of what is posted and the entry that posted what lands.
 fn make_step(pending: &mut Pending, step: Step) -> (Option<Fate>, Option<u32>) {
     match step {
         Step::Post(class, from) => (Some(pending.post(abort(class, from), false)), None),

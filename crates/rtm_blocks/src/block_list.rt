@@ -1,12 +1,14 @@
+//! The request blocks of one bracket.
+
 ghost use Rattle.std.specs.Prelude.{◌≡◌, ◌≤◌, ◌==◌, ◌↔◌, [], ◌∷◌, length, reverse, find, IfOk, IsErr, OnOk, OnErr, vec_capacity};
-ghost use Rattle.rtm_model.specs.Blocks.{newest, oldest, without_newest, from_first, is_block_of, with_newest_at, from_born};
+ghost use Rattle.rtm_model.specs.Blocks.{newest, oldest, without_newest, from_first, is_block_of, with_newest_at, from_birth};
 
 use rtm_codes::NoMemory;
 use rtm_model::{Block, Full, Place};
 use std::alloc::Global;
 use std::marker::Model;
 
-/// At most this many request blocks of a bracket (this profile).
+// At most this many request blocks of a bracket (this profile).
 const MOST_BLOCKS: usize = 32;
 
 /// The request blocks of a bracket, at most 32, in room that is reserved. A contract sees the newest first.
@@ -32,7 +34,7 @@ fn is_block_of(block: &Block, born: u32) -> bool
     block.born == born
 }
 
-/// The newest block that has that birth.
+// The newest block that has that birth.
 fn find(list: &[Block], born: u32) -> Option<Block>
     ensures { result ≡ find (is_block_of born) (reverse list.now) }
 {
@@ -49,7 +51,7 @@ fn oldest(list: &[Block]) -> Option<Block>
     list.first().copied()
 }
 
-/// Takes blocks away from the newest end, up to the one that has that birth.
+// Takes blocks away from the newest end, up to the one that has that birth.
 fn cut_to(list: &mut Vec<Block>, born: u32)
     ensures items { reverse list.new.items ≡ from_first (is_block_of born) (reverse list.old.items) }
     ensures shorter { length list.new.items ≤ length list.old.items }
@@ -137,7 +139,7 @@ impl BlockList {
 
     /// Blocks newer than the one that has that birth go, if it is there.
     pub(crate) fn cut_to(&mut self, born: u32)
-        ensures { self.new ≡ from_born born self.old }
+        ensures { self.new ≡ from_birth born self.old }
     {
         if self.find(born).is_some() {
             cut_to(&mut self.list, born);

@@ -1,3 +1,5 @@
+//! The request blocks of a unit, bracket by bracket.
+
 ghost use Rattle.std.specs.Prelude.{◌≡◌, ◌==◌, ◌<◌, ◌↔◌, not, nat_le, [], length, reverse, IfOk, IsErr, OnOk, OnErr, vec_len, vec_capacity};
 ghost use Rattle.std.specs.Option.{option_copied};
 ghost use Rattle.rtm_model.specs.Blocks.{newest, newest_bracket, newest_block, oldest_block, block_born, place_or_none, birth_or_zero, place_in, place_of_born, newest_birth, oldest_birth, has_one_block, has_full_bracket, has_full_brackets, first_place, block_of, in_newest_bracket, with_bracket, without_bracket, with_linked, with_place, with_program, after_return, cut_to};
@@ -8,7 +10,7 @@ use rtm_model::{Block, Full, Place};
 use std::alloc::Global;
 use std::marker::Model;
 
-/// At most this many brackets of a unit, the outermost among them (this profile).
+// At most this many brackets of a unit, the outermost among them (this profile).
 const MOST_BRACKETS: usize = 16;
 
 /// The request blocks of a unit: a list of brackets, at most 16, each a list of blocks, at most 32 (this profile).
@@ -35,7 +37,7 @@ impl Model for Blocks {
         (16 ≤ vec_capacity a.brackets) × (16 ≤ vec_capacity a.spares) };
 }
 
-/// The place that every program begins with.
+// The place that every program begins with.
 fn first_place(prog: u16) -> Place
     ensures { result ≡ first_place prog }
 {
@@ -69,7 +71,7 @@ fn birth_or_zero(block: Option<Block>) -> u32
     }
 }
 
-/// Room for that many more brackets.
+// Room for that many more brackets.
 fn add_spares(alloc: Global, spares: &mut Vec<BlockList>) -> Result<(), NoMemory>
     requires { (vec_len spares.old ≡ 0) × (vec_capacity spares.old ≡ 16) }
     ensures len { OnOk result (vec_len spares.new ≡ 16) }
@@ -115,7 +117,7 @@ fn block_born(brackets: &[BlockList], born: u32) -> Option<Block>
     }
 }
 
-/// The brackets that enclose the innermost one.
+// The brackets that enclose the innermost one.
 fn outer(brackets: &[BlockList]) -> &[BlockList]
     ensures { reverse result.now ≡ without_bracket (reverse brackets.now) }
 {
@@ -125,7 +127,7 @@ fn outer(brackets: &[BlockList]) -> &[BlockList]
     }
 }
 
-/// How many blocks the innermost bracket has.
+// How many blocks the innermost bracket has.
 fn block_count(brackets: &[BlockList]) -> usize
     ensures { result ≡ length (newest_bracket (reverse brackets.now)) }
 {

@@ -1,3 +1,5 @@
+//! Request blocks, call by call.
+
 use crate::{Blocks, Full, Place};
 use std::test::Fail;
 
@@ -20,7 +22,7 @@ enum Step {
     Clear,
 }
 
-/// Does the step, and tells what `link` and `end` answer.
+// Does the step, and tells what `link` and `end` answer.
 fn make_step(blocks: &mut Blocks, step: Step) -> bool {
     match step {
         Step::Begin(born, prog) => {

@@ -4,7 +4,7 @@ use Rattle.std.specs.Prelude.{◌==◌, slice_index, slice_set}
 use Rattle.std.specs.List.{AllByRecursion, range_with_len}
 use Rattle.std.proofs.lemmas.Bool.{cases_eq, eqb-true}
 use Rattle.std.proofs.lemmas.List.{get_or-set_same, get_or-set_other, length-set, length-replicate}
-use Rattle.rtm_board.specs.Commands.{no_commands, has, with_one, joined}
+use Rattle.rtm_board.specs.Commands.{no_commands, has, with_one, union_of}
 use Rattle.rtm_board.specs.View.{BoardView, ConsoleView, UnitView, commands_for, word_of, with_word, target_of, with_command, AreSeatsFrom, IsAccountedFor, AreAccountedFor, opening_seat, IsBoard, IsConsole}
 use Rattle.rtm_board.proofs.Sets.{has_none, has_with, has_joined, own_command, other_command}
 
@@ -99,7 +99,7 @@ module _ (board : BoardView) (console : ConsoleView) (cmd : ℕ) (command : cmd 
 
 -- A taking
 
-pub accounted_take : (board : BoardView) (console : ConsoleView) (unit : UnitView) → IsAccountedFor board console unit → IsAccountedFor (with_word unit.unit no_commands board) console (record unit { taken = joined unit.taken (word_of unit.unit board) })
+pub accounted_take : (board : BoardView) (console : ConsoleView) (unit : UnitView) → IsAccountedFor board console unit → IsAccountedFor (with_word unit.unit no_commands board) console (record unit { taken = union_of unit.taken (word_of unit.unit board) })
 accounted_take board console unit old =
     let w = word_of unit.unit board in
     let word : word_of unit.unit (with_word unit.unit no_commands board) ≡ no_commands = word_same board.words unit.unit no_commands unit.unit old.is_seat.unit refl in
@@ -107,9 +107,9 @@ accounted_take board console unit old =
     record {
       is_seat = record { unit = omega (arith, old.is_seat.unit, length-set board.words unit.unit no_commands); commands = old.is_seat.commands };
       posted = λ c.
-          ap (λ (b : Bool). b || has c (joined unit.taken w)) (empty c)
+          ap (λ (b : Bool). b || has c (union_of unit.taken w)) (empty c)
           ∙ has_joined c unit.taken w ∙ take_over (has c w) (has c unit.taken) ∙ old.posted c;
-      never_both = λ c. ap (λ (b : Bool). b && has c (joined unit.taken w)) (empty c);
+      never_both = λ c. ap (λ (b : Bool). b && has c (union_of unit.taken w)) (empty c);
     }
 
 pub accounted_other : (board : BoardView) (console : ConsoleView) (u : ℕ) (unit : UnitView) → unit.unit ≢ u → IsAccountedFor board console unit → IsAccountedFor (with_word u no_commands board) console unit

@@ -4,7 +4,7 @@ use Rattle.std.specs.Prelude.{◌==◌, nat_lt, nat_le, slice_index}
 use Rattle.std.specs.List.{AllByRecursion}
 use Rattle.std.proofs.lemmas.Bool.Decides.{nat_tests}
 use Rattle.rtm_board.specs.Commands.{no_commands, has}
-use Rattle.rtm_board.specs.View.{BoardView, ConsoleView, UnitView, commands_for, word_of, all_of, taken_by, AreSeatsFrom, IsAccountedFor, AreAccountedFor, IsBoard, IsConsole}
+use Rattle.rtm_board.specs.View.{BoardView, ConsoleView, UnitView, commands_for, word_of, all_of, commands_taken_by, AreSeatsFrom, IsAccountedFor, AreAccountedFor, IsBoard, IsConsole}
 use Rattle.rtm_board.proofs.Sets.{has_none, has_joined, has_commands_for}
 
 -- Of one command: w and k say whether it stands in the first unit's word and whether that unit has taken it, x and y the same
@@ -83,7 +83,7 @@ module _ (board : BoardView) (console : ConsoleView) (c : ℕ) (kept : IsBoard b
   abbrev is_from : ℕ → Bool
   is_from u = nat_lt c count && nat_le u target
 
-  from : (u : ℕ) (words : List ℕ) (seats : List UnitView) → u + length words ≡ length board.words → ((i : ℕ) → slice_index words i ≡ slice_index board.words (u + i)) → AreSeatsFrom board u seats → AllByRecursion (IsAccountedFor board console) seats → IsDivided (has c (all_of words)) (has c (taken_by seats)) (has c console.posted) (is_from u)
+  from : (u : ℕ) (words : List ℕ) (seats : List UnitView) → u + length words ≡ length board.words → ((i : ℕ) → slice_index words i ≡ slice_index board.words (u + i)) → AreSeatsFrom board u seats → AllByRecursion (IsAccountedFor board console) seats → IsDivided (has c (all_of words)) (has c (commands_taken_by seats)) (has c console.posted) (is_from u)
   from u [] [] size link order each =
       let past : c < count → target < u = λ below. omega (arith, kept.units c below) in
       record {
@@ -102,15 +102,15 @@ module _ (board : BoardView) (console : ConsoleView) (c : ℕ) (kept : IsBoard b
       divided-along (has c (word_of s.unit board)) (has c w) (has c s.taken) (has c s.taken) (has c console.posted) (has c s.commands) (nat_lt c count && (target == u)) (ap (has c) word) refl own (record { all = each.0.posted c; apart = each.0.never_both c }) in
       let next : (i : ℕ) → u + suc i ≡ u + 1 + i = λ i. omega arith in
       let rest = from (u + 1) words seats (omega arith) (λ i. link (suc i) ∙ ap (λ (n : ℕ). slice_index board.words n) (next i)) order.2 each.1 in
-      let both = together (has c w) (has c s.taken) (has c (all_of words)) (has c (taken_by seats)) (has c console.posted) (nat_lt c count && (target == u)) (is_from (u + 1)) (is_from u) first rest (one_unit c count u target) (any_unit c count u target) in
-      divided-along (has c w || has c (all_of words)) (has c (all_of (w ∷ words))) (has c s.taken || has c (taken_by seats)) (has c (taken_by (s ∷ seats))) (has c console.posted) (is_from u) (is_from u) (sym (has_joined c w (all_of words))) (sym (has_joined c s.taken (taken_by seats))) refl both
+      let both = together (has c w) (has c s.taken) (has c (all_of words)) (has c (commands_taken_by seats)) (has c console.posted) (nat_lt c count && (target == u)) (is_from (u + 1)) (is_from u) first rest (one_unit c count u target) (any_unit c count u target) in
+      divided-along (has c w || has c (all_of words)) (has c (all_of (w ∷ words))) (has c s.taken || has c (commands_taken_by seats)) (has c (commands_taken_by (s ∷ seats))) (has c console.posted) (is_from u) (is_from u) (sym (has_joined c w (all_of words))) (sym (has_joined c s.taken (commands_taken_by seats))) refl both
 
-  divided : (seats : List UnitView) → AreAccountedFor board console seats → IsDivided (has c (all_of board.words)) (has c (taken_by seats)) (has c console.posted) (is_from 0)
+  divided : (seats : List UnitView) → AreAccountedFor board console seats → IsDivided (has c (all_of board.words)) (has c (commands_taken_by seats)) (has c console.posted) (is_from 0)
   divided seats accounted =
       from 0 board.words seats (omega arith) (λ i. ap (λ (n : ℕ). slice_index board.words n) (sym (zero-add i))) accounted.all accounted.each
 
-  pub closing : (seats : List UnitView) → AreAccountedFor board console seats → IsConsole board.targets console.posted → (has c (all_of board.words) || has c (taken_by seats)) ≡ has c console.posted
+  pub closing : (seats : List UnitView) → AreAccountedFor board console seats → IsConsole board.targets console.posted → (has c (all_of board.words) || has c (commands_taken_by seats)) ≡ has c console.posted
   closing seats accounted own = (divided seats accounted).all ∙ whole (has c console.posted) c count target (own.own c)
 
-  pub closing_apart : (seats : List UnitView) → AreAccountedFor board console seats → (has c (all_of board.words) && has c (taken_by seats)) ≡ false
+  pub closing_apart : (seats : List UnitView) → AreAccountedFor board console seats → (has c (all_of board.words) && has c (commands_taken_by seats)) ≡ false
   closing_apart seats accounted = (divided seats accounted).apart

@@ -4,13 +4,13 @@ use Rattle.std.specs.Prelude.{nat_le, slice_index, slice_get, IsTrue}
 use Rattle.std.specs.Option.{option_map_or}
 use Rattle.std.specs.List.{AllByRecursion, range_with_len, list_all}
 use Rattle.std.proofs.lemmas.List.{length-map}
-use Rattle.rtm_items.specs.declared.deck.Command.{Command}
-use Rattle.rtm_items.specs.declared.deck.Unit.{Unit as UnitCard}
-use Rattle.rtm_items.specs.View.{DeckView}
-use Rattle.rtm_items.specs.Reading.{is_task_card}
-use Rattle.rtm_items.specs.WellFormed.{is_well_formed, is_command_of, is_task_in}
-use Rattle.rtm_items.proofs.FormFacts.{conditions, limits}
-use Rattle.rtm_items.proofs.Lists.{both_true}
+use Rattle.rtm_deck_items.specs.declared.deck.Command.{Command}
+use Rattle.rtm_deck_items.specs.declared.deck.Unit.{Unit as UnitCard}
+use Rattle.rtm_deck_items.specs.View.{DeckView}
+use Rattle.rtm_deck_items.specs.Reading.{is_task_card}
+use Rattle.rtm_deck_items.specs.WellFormed.{is_well_formed, is_command_of, is_task_in}
+use Rattle.rtm_deck_items.proofs.FormFacts.{conditions, limits}
+use Rattle.rtm_deck_items.proofs.Lists.{both_true}
 use Rattle.rtm_board.specs.Commands.{no_commands}
 use Rattle.rtm_board.proofs.Accounts.{board_opening}
 use Rattle.std.proofs.lemmas.List.FromFn.{length-map-range_with_len, map-range_with_len_more}

@@ -4,9 +4,9 @@ use Rattle.std.specs.Prelude.{if◌then◌else◌, ◌==◌, ◌||◌}
 use Rattle.std.specs.List.{range_with_len}
 use Rattle.std.proofs.lemmas.Bool.{eqb-true}
 use Rattle.std.proofs.lemmas.Bool.Decides.{nat_tests}
-use Rattle.rtm_items.specs.View.{DeckView}
-use Rattle.rtm_board.specs.Commands.{has, joined, no_commands, with_one}
-use Rattle.rtm_board.specs.View.{AreAccountedFor, BoardView, ConsoleView, IsAccountedFor, IsOpening, UnitView, opening_seat, taken_by, targets_of, with_command}
+use Rattle.rtm_deck_items.specs.View.{DeckView}
+use Rattle.rtm_board.specs.Commands.{has, no_commands, union_of, with_one}
+use Rattle.rtm_board.specs.View.{AreAccountedFor, BoardView, ConsoleView, IsAccountedFor, IsOpening, UnitView, commands_taken_by, opening_seat, targets_of, with_command}
 use Rattle.rtm_board.proofs.Keeping.{all_posted, if_console, if_posted}
 use Rattle.rtm_board.proofs.Sets.{has_none, has_with}
 use Rattle.rtm_board.specs.All.{AreAll}
@@ -43,9 +43,9 @@ pub posted_before : (cmd other : ℕ) (before after : ConsoleView) → after ≡
 posted_before cmd other before after a h = posted_if cmd other (has cmd before.posted) before after refl a (or_right (other == cmd) (has other before.posted) h)
 
 -- no seat has taken any at the opening
-none_taken : (targets units : List ℕ) → taken_by (map (opening_seat targets) units) ≡ no_commands
+none_taken : (targets units : List ℕ) → commands_taken_by (map (opening_seat targets) units) ≡ no_commands
 none_taken targets [] = refl
-none_taken targets (unit ∷ units) = ap (joined no_commands) (none_taken targets units)
+none_taken targets (unit ∷ units) = ap (union_of no_commands) (none_taken targets units)
 
 or_false : (a b : Bool) → (a || b) ≡ true → b ≡ false → a ≡ true
 or_false true b e f = refl
@@ -53,8 +53,8 @@ or_false false b e f = absurd cc
 
 -- what stands on the board is all that was posted
 pub all_stand : (d : DeckView) (opened : BoardView) (console posted : ConsoleView) (seats : List UnitView) (notes count : ℕ) → IsOpening (targets_of d) (length d.units) opened console seats
-    → ((cmd : ℕ) → cmd < count → has cmd posted.posted ≡ true) → count ≡ length d.commands → ((cmd : ℕ) → (has cmd notes || has cmd (taken_by seats)) ≡ has cmd posted.posted) → AreAll d notes
+    → ((cmd : ℕ) → cmd < count → has cmd posted.posted ≡ true) → count ≡ length d.commands → ((cmd : ℕ) → (has cmd notes || has cmd (commands_taken_by seats)) ≡ has cmd posted.posted) → AreAll d notes
 all_stand d opened console posted seats notes count o all n stands cmd below =
-    let none : has cmd (taken_by seats) ≡ false =
-    ap (λ (s : List UnitView). has cmd (taken_by s)) o.seats_are ∙ ap (has cmd) (none_taken (targets_of d) (range_with_len 0 (length d.units))) ∙ has_none cmd in
-    or_false (has cmd notes) (has cmd (taken_by seats)) (stands cmd ∙ all cmd (omega (arith, below, n))) none
+    let none : has cmd (commands_taken_by seats) ≡ false =
+    ap (λ (s : List UnitView). has cmd (commands_taken_by s)) o.seats_are ∙ ap (has cmd) (none_taken (targets_of d) (range_with_len 0 (length d.units))) ∙ has_none cmd in
+    or_false (has cmd notes) (has cmd (commands_taken_by seats)) (stands cmd ∙ all cmd (omega (arith, below, n))) none

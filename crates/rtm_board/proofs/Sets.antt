@@ -7,7 +7,7 @@ use Rattle.std.proofs.lemmas.Nat.{pow_below}
 use Rattle.std.proofs.lemmas.Nat.Bits.{bit_at_lowest, bit_at-suc, bit_at-zero, shr_and_one, bit_at_and, bit_at_or, bit_at-pow_same, bit_at-pow_other, bit_at_not, bit_at-trailing_zeros, bit_at-lt, same_from_bits, bit_at_above}
 use Rattle.std.proofs.lemmas.List.{length-drop, drop_more}
 use Rattle.std.proofs.Math.Nat.{pow-succ', pow-le-pow_right}
-use Rattle.rtm_board.specs.Commands.{no_commands, has, with_one, without_one, joined, IsLeast}
+use Rattle.rtm_board.specs.Commands.{no_commands, has, with_one, without_one, union_of, IsLeast}
 use Rattle.rtm_board.specs.View.{commands_for, all_of}
 
 -- no command is in the empty set
@@ -41,7 +41,7 @@ join_step : (x y : ℕ) → x < 2 → y < 2 → (max x y == 1) ≡ ((x == 1) || 
 join_step x y bit bit' = grind (arith, nat_tests)
 
 -- the commands of two sets
-pub has_joined : (c a b : ℕ) → has c (joined a b) ≡ (has c a || has c b)
+pub has_joined : (c a b : ℕ) → has c (union_of a b) ≡ (has c a || has c b)
 unfolding has
 has_joined c a b = ap (λ (n : ℕ). n == 1) (bit_at_or a b c) ∙ join_step (bit_at a c) (bit_at b c) (bit_at-lt a c) (bit_at-lt b c)
 
@@ -144,5 +144,5 @@ doubled_fits u targets left few some =
 pub one_more : (u : ℕ) (targets : List ℕ) (i : ℕ) → i < length targets → commands_for u (drop i targets) ≡ (if slice_index targets i == u then 1 else 0) + 2 * commands_for u (drop (i + 1) targets)
 one_more u targets i within = ap (commands_for u) (drop_more targets i 0 within)
 
-pub one_more_word : (words : List ℕ) (i : ℕ) → i < length words → all_of (drop i words) ≡ joined (slice_index words i) (all_of (drop (i + 1) words))
+pub one_more_word : (words : List ℕ) (i : ℕ) → i < length words → all_of (drop i words) ≡ union_of (slice_index words i) (all_of (drop (i + 1) words))
 one_more_word words i within = ap all_of (drop_more words i 0 within)

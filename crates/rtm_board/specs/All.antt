@@ -1,6 +1,6 @@
 -- The notes of all commands of a deck (this profile).
 use Rattle.std.specs.Prelude.{length, true, ℕ, ◌<◌, ◌≡◌}
-use Rattle.rtm_items.specs.View.{DeckView}
+use Rattle.rtm_deck_items.specs.View.{DeckView}
 use Rattle.rtm_board.specs.Commands.{has}
 
 -- each command of the deck is among them

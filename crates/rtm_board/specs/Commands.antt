@@ -19,8 +19,8 @@ abbrev pub without_one : ℕ → ℕ → ℕ
 without_one cmd set = bit_and set (2 ^ 64 - 1 - 2 ^ cmd)
 
 -- the commands of two sets
-abbrev pub joined : ℕ → ℕ → ℕ
-joined one other = bit_or one other
+abbrev pub union_of : ℕ → ℕ → ℕ
+union_of one other = bit_or one other
 
 -- the command is in the set, and none of a lower number
 pub record IsLeast (set cmd : ℕ) : Type 0 where

@@ -1,8 +1,8 @@
 -- The operator's board, its seats, and how they fit each other. Operator commands, their words and seats are this profile's.
 use Rattle.std.specs.Prelude.{◌≡◌, ℕ, ◌+◌, ◌*◌, ◌<◌, ◌≤◌, true, false, ◌&&◌, ◌||◌, ◌==◌, if◌then◌else◌, List, [], ◌∷◌, length, map, replicate, slice_index, slice_set}
 use Rattle.std.specs.List.{AllByRecursion, range_with_len}
-use Rattle.rtm_items.specs.View.{DeckView}
-use Rattle.rtm_board.specs.Commands.{no_commands, has, with_one, joined}
+use Rattle.rtm_deck_items.specs.View.{DeckView}
+use Rattle.rtm_board.specs.Commands.{no_commands, has, with_one, union_of}
 
 -- the unit that each command of the deck is for, by the command's number; and a word for each unit, with the commands that
 -- were posted to it and that it hasn't taken
@@ -49,11 +49,11 @@ with_command cmd board = with_word (target_of cmd board) (with_one cmd (word_of 
 -- the commands of all words, or of all sets of a list
 abbrev pub all_of : List ℕ → ℕ
 all_of [] = no_commands
-all_of (word ∷ words) = joined word (all_of words)
+all_of (word ∷ words) = union_of word (all_of words)
 
 -- the commands that the units of these seats have taken
-abbrev pub taken_by : List UnitView → ℕ
-taken_by seats = all_of (map (λ seat. seat.taken) seats)
+abbrev pub commands_taken_by : List UnitView → ℕ
+commands_taken_by seats = all_of (map (λ seat. seat.taken) seats)
 
 -- the seat is one of the board's
 pub record IsSeatOf (board : BoardView) (seat : UnitView) : Type 0 where

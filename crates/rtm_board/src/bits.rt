@@ -36,7 +36,7 @@ pub(crate) fn without_one(set: u64, cmd: u8) -> u64
 }
 
 /// The command of the least number.
-pub(crate) fn least(set: u64) -> Option<u8>
+pub(crate) fn least_command(set: u64) -> Option<u8>
     ensures least { IfSome result (λ cmd. IsLeast set cmd) }
     ensures below { IfSome result (λ cmd. cmd < 64) }
     ensures empty { IfNone result (set ≡ no_commands) }

@@ -1,13 +1,15 @@
+//! The operator's board: how it is opened, posted to, taken from and closed.
+
 ghost use Rattle.std.specs.Prelude.{◌≡◌, ◌≢◌, ◌<◌, ◌≤◌, ◌+◌, ◌&&◌, ◌||◌, true, false, ℕ, length, map, replicate, slice_index, slice_set, if◌then◌else◌, vec_len, IfOk};
 ghost use Rattle.std.specs.List.{AllByRecursion, range_with_len};
-ghost use Rattle.rtm_board.specs.Commands.{no_commands, has, with_one, joined};
-ghost use Rattle.rtm_board.specs.View.{ConsoleView, UnitView, targets_of, commands_for, word_of, with_word, with_command, all_of, taken_by, opening_seat, IsSeatOf, AreSeatsFrom, IsAccountedFor, AreAccountedFor, IsOpening};
+ghost use Rattle.rtm_board.specs.Commands.{no_commands, has, with_one, union_of};
+ghost use Rattle.rtm_board.specs.View.{ConsoleView, UnitView, targets_of, commands_for, word_of, with_word, with_command, all_of, commands_taken_by, opening_seat, IsSeatOf, AreSeatsFrom, IsAccountedFor, AreAccountedFor, IsOpening};
 
 use crate::bits;
 use crate::notes::{Notes, notes_of};
 use crate::seats::{ConsoleSeat, UnitSeat};
 use rtm_codes::NoMemory;
-use rtm_items::Deck;
+use rtm_deck_items::Deck;
 use std::alloc::Global;
 use std::marker::Model;
 
@@ -103,8 +105,8 @@ fn all_of(words: &[u64]) -> u64
     all
 }
 
-// A board for so many units, where the list has the unit of each command, and its seats.
-pub(crate) fn opened(
+/// A board for so many units, where the list has the unit of each command, and its seats.
+pub(crate) fn board_with_seats(
     alloc: Global,
     units: u16,
     targets: Vec<u16>,
@@ -131,7 +133,7 @@ impl Board {
     {
         deck.keeps_its_form();
         let targets = targets_of(alloc, deck)?;
-        opened(alloc, deck.unit_count(), targets)
+        board_with_seats(alloc, deck.unit_count(), targets)
     }
 
     /// Posts a command of the deck to its unit. `Already` where the console has posted it before; then nothing changes.
@@ -156,7 +158,7 @@ impl Board {
         requires { IsSeatOf self.old seat.old }
         ensures notes { result ≡ word_of seat.old.unit self.old }
         ensures board { self.new ≡ with_word seat.old.unit no_commands self.old }
-        ensures seat { seat.new ≡ record seat.old { taken = joined seat.old.taken result } }
+        ensures seat { seat.new ≡ record seat.old { taken = union_of seat.old.taken result } }
         ensures own { (cmd : ℕ) → has cmd result ≡ true → has cmd seat.old.commands ≡ true }
         ensures accounted { (console : ConsoleView) → IsAccountedFor self.old console seat.old → IsAccountedFor self.new console seat.new }
         ensures others { (console : ConsoleView) (unit : UnitView) → unit.unit ≢ seat.old.unit → IsAccountedFor self.old console unit → IsAccountedFor self.new console unit }
@@ -172,9 +174,9 @@ impl Board {
         requires seats { AreSeatsFrom self 0 seats.items }
         ensures notes { result ≡ all_of self.words }
         ensures posted { AreAccountedFor self console seats.items → (cmd : ℕ) →
-            (has cmd result || has cmd (taken_by seats.items)) ≡ has cmd console.posted }
+            (has cmd result || has cmd (commands_taken_by seats.items)) ≡ has cmd console.posted }
         ensures never_both { AreAccountedFor self console seats.items → (cmd : ℕ) →
-            (has cmd result && has cmd (taken_by seats.items)) ≡ false }
+            (has cmd result && has cmd (commands_taken_by seats.items)) ≡ false }
     {
         notes_of(all_of(&self.words))
     }

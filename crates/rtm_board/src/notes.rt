@@ -1,5 +1,7 @@
+//! Notes: commands that were taken from the board.
+
 ghost use Rattle.std.specs.Prelude.{◌≡◌, ◌<◌, ◌↔◌, if◌then◌else◌, IfSome, IfNone, IsNone, OnSome, Some, None};
-ghost use Rattle.rtm_board.specs.Commands.{no_commands, has, with_one, without_one, joined, IsLeast};
+ghost use Rattle.rtm_board.specs.Commands.{no_commands, has, with_one, without_one, union_of, IsLeast};
 
 use crate::bits;
 use std::marker::Model;
@@ -70,7 +72,7 @@ impl Notes {
         ensures empty { IsNone result ↔ (self.old ≡ no_commands) }
         ensures none { IfNone result (self.new ≡ self.old) }
     {
-        let cmd = bits::least(self.set)?;
+        let cmd = bits::least_command(self.set)?;
         self.set = bits::without_one(self.set, cmd);
         Some(Note { cmd })
     }
@@ -104,7 +106,7 @@ impl Notes {
 
     /// Adds the other's notes; a command that is in both stands once.
     pub fn join(&mut self, other: Notes)
-        ensures { self.new ≡ joined self.old other }
+        ensures { self.new ≡ union_of self.old other }
     {
         self.set |= other.set;
     }

@@ -9,7 +9,7 @@ use crate::board::Board;
 use crate::notes::Notes;
 use crate::seats::ConsoleSeat;
 use rtm_codes::NoMemory;
-use rtm_items::Deck;
+use rtm_deck_items::Deck;
 use std::alloc::Global;
 
 // Posts a command of the deck.

@@ -1,3 +1,5 @@
+//! The seats of a board: the console's, and one for each unit.
+
 use std::marker::Model;
 
 /// The seat from which the console posts commands, at the board that it was made with.

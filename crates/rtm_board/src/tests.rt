@@ -1,7 +1,9 @@
+//! Each posted command comes out once.
+
 ghost use Rattle.std.specs.Prelude.{◌≡◌, length};
 ghost use Rattle.rtm_board.specs.View.{AreAccountedFor};
 
-use crate::board::opened;
+use crate::board::board_with_seats;
 use crate::notes::notes_of;
 use crate::{Board, ConsoleSeat, Notes, Posted, UnitSeat};
 use std::test::Fail;
@@ -12,12 +14,12 @@ enum BoardStep {
     Take(u16),
 }
 
-/// Which of the first four commands there are notes of.
+// Which of the first four commands there are notes of.
 fn commands_in(notes: &Notes) -> [bool; 4] {
     [0, 1, 2, 3].map(|cmd| notes.has(cmd))
 }
 
-/// Does the step, and tells what a post finds, or which commands are taken.
+// Does the step, and tells what a post finds, or which commands are taken.
 fn board_step(
     board: &mut Board,
     console: &mut ConsoleSeat,
@@ -52,7 +54,7 @@ fn board_step(
 fn gives_each_command_once(rt: HostRuntime) -> Result<(), Fail> {
     // Commands 0 and 1 are for unit 0, command 2 for unit 2, and command 3 for unit 1.
     let targets = Vec::from_slice(rt.alloc(), &[0, 0, 2, 1])?;
-    let (mut board, mut console, mut seats) = opened(rt.alloc(), 3, targets)?;
+    let (mut board, mut console, mut seats) = board_with_seats(rt.alloc(), 3, targets)?;
     let nothing = [false; 4];
     let steps = [
         (BoardStep::Take(0), None, nothing),

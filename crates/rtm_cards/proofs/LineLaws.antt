@@ -7,7 +7,7 @@ use Rattle.std.proofs.lemmas.List.{take_more}
 use Rattle.std.proofs.lemmas.List.Sums.{sum_by-cons}
 use Rattle.rtm_cards.specs.Text.{line_feed}
 use Rattle.rtm_cards.specs.Lines.{lines_of, number_at}
-use Rattle.rtm_cards.specs.Spelling.{Lacks, ended, SpellLines}
+use Rattle.rtm_cards.specs.Spelling.{Lacks, line_with_feed, SpellLines}
 
 -- a byte more in front of the first line
 spelled_more : (b : ℕ) (bs : List ℕ) (lines : List (List ℕ)) → eqb b line_feed ≡ false → SpellLines bs lines → SpellLines (b ∷ bs) (onto_first b lines)
@@ -55,11 +55,11 @@ spelled_lines bytes (line ∷ lines) h = elim h.1 [
 ]
 
 -- lines that are written with a line feed each are read again
-pub ended_lines : (lines : List (List ℕ)) → AllByRecursion (Lacks line_feed) lines → lines_of (flat_map ended lines) ≡ lines
+pub ended_lines : (lines : List (List ℕ)) → AllByRecursion (Lacks line_feed) lines → lines_of (flat_map line_with_feed lines) ≡ lines
 unfolding lines_of
 ended_lines [] h = refl
 ended_lines (line ∷ lines) h =
-    ap lines_of (append_assoc line (line_feed ∷ []) (flat_map ended lines)) ∙ line_ended line (flat_map ended lines) h.0
+    ap lines_of (append_assoc line (line_feed ∷ []) (flat_map line_with_feed lines)) ∙ line_ended line (flat_map line_with_feed lines) h.0
     ∙ ap (λ (ls : List (List ℕ)). line ∷ ls) (ended_lines lines h.1)
 
 -- a byte more in front is a line more where it is a line feed

@@ -9,8 +9,8 @@ abbrev pub Lacks : ℕ → List ℕ → Type 0
 Lacks byte text = IsTrue (list_all (λ b. not (b == byte)) text)
 
 -- a line with the line feed that ends it
-abbrev pub ended : List ℕ → List ℕ
-ended line = line ++ line_feed ∷ []
+abbrev pub line_with_feed : List ℕ → List ℕ
+line_with_feed line = line ++ line_feed ∷ []
 
 -- The bytes are these lines. Each ends at its line feed; the last may have none, where it has bytes.
 abbrev pub SpellLines : List ℕ → List (List ℕ) → Type 0

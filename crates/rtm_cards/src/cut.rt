@@ -33,7 +33,7 @@ pub struct Cut {
     pub fault: Option<CutFault>,
 }
 
-/// The card of that number, which lies on that line.
+// The card of that number, which lies on that line.
 fn card_of(alloc: Global, bytes: &[u8], number: u32, line: Span) -> Result<Card, CardFault>
     requires { IsWithin bytes.now line }
     ensures text { IfOk result
@@ -51,7 +51,7 @@ fn card_of(alloc: Global, bytes: &[u8], number: u32, line: Span) -> Result<Card,
     })
 }
 
-/// Puts a card behind the others, unless it is a comment or blank.
+// Puts a card behind the others, unless it is a comment or blank.
 fn put_card(
     alloc: Global,
     bytes: &[u8],
@@ -77,7 +77,7 @@ fn put_card(
     Ok(())
 }
 
-/// Cuts an input that isn't too long.
+// Cuts an input that isn't too long.
 fn cut_lines(alloc: Global, bytes: &[u8]) -> Result<Cut, CardFault>
     requires { length bytes.now ≤ max_bytes }
     ensures fault { IfOk result
@@ -89,7 +89,7 @@ fn cut_lines(alloc: Global, bytes: &[u8]) -> Result<Cut, CardFault>
 {
     let mut cards = Vec::new(alloc);
     let mut lines = 0;
-    let mut rest = Span::whole(bytes);
+    let mut rest = Span::whole_span(bytes);
     'cards: while !rest.is_empty() {
         let (line, behind) = cut_line(bytes, rest);
         let number = lines + 1;
@@ -112,7 +112,7 @@ fn cut_lines(alloc: Global, bytes: &[u8]) -> Result<Cut, CardFault>
     })
 }
 
-/// The number of the card that holds the byte of that index.
+// The number of the card that holds the byte of that index.
 #[tactic(auto, unfolding(crate::specs::Lines::number_at))]
 fn number_at(bytes: &[u8], i: usize) -> u32
     requires there { i < length bytes.now }

@@ -10,7 +10,7 @@ ghost use Rattle.rtm_cards.specs.Lines.{lines_of, number_at};
 ghost use Rattle.rtm_cards.specs.Fields.{op_of};
 ghost use Rattle.rtm_cards.specs.Cards.{CardText, card_of};
 ghost use Rattle.rtm_cards.specs.Faults.{HasNoFault, IsFirstFault};
-ghost use Rattle.rtm_cards.specs.Spelling.{Lacks, ended, SpellLines, SpellsCard};
+ghost use Rattle.rtm_cards.specs.Spelling.{Lacks, line_with_feed, SpellLines, SpellsCard};
 
 /// Each input has no fault, or exactly one first fault, and only its size makes it too long.
 pub fn each_input_has_one_first_fault()
@@ -32,7 +32,7 @@ pub fn lines_spell_their_input()
 
     // Lines that are written are read again.
     ensures written { (lines : List (List ℕ)) → AllByRecursion (Lacks line_feed) lines
-        → lines_of (flat_map ended lines) ≡ lines }
+        → lines_of (flat_map line_with_feed lines) ≡ lines }
 
     // The card that holds a byte is the last one up to that byte.
     ensures number { (bytes : List ℕ) (i : ℕ) → i < length bytes

@@ -4,7 +4,7 @@ ghost use Rattle.std.specs.Prelude.{◌≡◌, ◌≤◌, length, IsTrue};
 ghost use Rattle.std.specs.List.{list_all};
 ghost use Rattle.rtm_cards.specs.Name.{is_letter, is_name_byte, is_name};
 
-/// How many bytes a name has at most.
+// How many bytes a name has at most.
 const MAX_NAME_BYTES: usize = 8;
 
 fn is_letter(byte: u8) -> bool

@@ -10,7 +10,7 @@ use crate::scan::cut_at;
 use crate::span::Span;
 use std::alloc::Global;
 
-/// The part before the first comma, and what stands behind that comma, if there is one.
+// The part before the first comma, and what stands behind that comma, if there is one.
 fn cut_part(bytes: &[u8], rest: Span) -> (Span, Option<Span>)
     requires { IsWithin bytes.now rest }
     ensures first_within { IsWithin bytes.now result.0 }

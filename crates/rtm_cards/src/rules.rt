@@ -9,10 +9,10 @@ use crate::fields::fields_of;
 use crate::name::is_name;
 use crate::span::Span;
 
-/// How many cards an input has at most.
+// How many cards an input has at most.
 const MAX_CARDS: u32 = 10_000;
 
-/// How many bytes a card has at most.
+// How many bytes a card has at most.
 const MAX_CARD_BYTES: usize = 80;
 
 fn is_comment(card: &[u8]) -> bool
@@ -44,7 +44,7 @@ fn has_good_fields(card: &[u8]) -> bool
     requires { length card.now < 2 ^ 32 }
     ensures { result ≡ has_good_fields card.now }
 {
-    let fields = fields_of(card, Span::whole(card));
+    let fields = fields_of(card, Span::whole_span(card));
     let name = fields.name.text(card);
     (name.is_empty() || is_name(name)) && !fields.op.is_empty()
 }

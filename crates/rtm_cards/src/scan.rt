@@ -6,7 +6,7 @@ ghost use Rattle.rtm_cards.specs.Span.{IsWithin, text_of};
 
 use crate::span::Span;
 
-/// Where the first byte that is `stop` stands, or the length.
+// Where the first byte that is `stop` stands, or the length.
 fn find(text: &[u8], stop: u8) -> usize
     ensures within { result ≤ length text.now }
     ensures front { take result text.now ≡ before stop text.now }
@@ -20,7 +20,7 @@ fn find(text: &[u8], stop: u8) -> usize
     text.len()
 }
 
-/// How many blanks the text begins with.
+// How many blanks the text begins with.
 fn count_blanks(text: &[u8]) -> usize
     ensures within { result ≤ length text.now }
     ensures rest { drop result text.now ≡ skip_blanks text.now }

@@ -14,7 +14,7 @@ impl Span {
     ghost use Rattle.rtm_cards.specs.Span.{IsWithin, text_of};
 
     /// The span of all the bytes.
-    pub(crate) fn whole(bytes: &[u8]) -> Span
+    pub(crate) fn whole_span(bytes: &[u8]) -> Span
         requires { length bytes.now < 2 ^ 32 }
         ensures within { IsWithin bytes.now result }
         ensures text { text_of bytes.now result ≡ bytes.now }

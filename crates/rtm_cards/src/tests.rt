@@ -1,8 +1,10 @@
+//! Inputs, the cards that are cut from them, and the first fault of cutting.
+
 use super::*;
 use std::alloc::{AllocError, Global};
 use std::test::Fail;
 
-/// A card's number, name, operation and operands.
+// A card's number, name, operation and operands.
 type Row = (u32, &'static str, &'static str, &'static [&'static str]);
 
 fn is_text(bytes: &[u8], span: Span, text: &str) -> bool {
@@ -22,7 +24,7 @@ fn says(bytes: &[u8], card: &Card, row: &Row) -> bool {
             .all(|(span, text)| is_text(bytes, *span, text))
 }
 
-/// Whether the input has no fault, and says the rows.
+// Whether the input has no fault, and says the rows.
 fn has_rows(alloc: Global, bytes: &[u8], rows: &[Row]) -> Result<bool, CardFault> {
     let cut = cut_cards(alloc, bytes)?;
     for (card, row) in cut.cards.iter().zip(rows) {
@@ -33,14 +35,19 @@ fn has_rows(alloc: Global, bytes: &[u8], rows: &[Row]) -> Result<bool, CardFault
     Ok(cut.fault.is_none() && cut.cards.len() == rows.len())
 }
 
-/// How many cards stand before the fault, and how many of them are kept; the fault.
+// How many cards stand before the fault, and how many of them are kept; the fault.
 fn outcome(alloc: Global, bytes: &[u8]) -> Result<(u32, usize, Option<CutFault>), CardFault> {
     let cut = cut_cards(alloc, bytes)?;
     Ok((cut.lines, cut.cards.len(), cut.fault))
 }
 
-/// The start of an input, and what fills it up to a length.
-fn filled(alloc: Global, start: &[u8], fill: u8, len: usize) -> Result<Vec<u8>, AllocError> {
+// The start of an input, and what fills it up to a length.
+fn text_of_length(
+    alloc: Global,
+    start: &[u8],
+    fill: u8,
+    len: usize,
+) -> Result<Vec<u8>, AllocError> {
     let mut bytes = vec![in alloc; fill; len]?;
     for (byte, first) in bytes.iter_mut().zip(start) {
         *byte = *first;
@@ -133,9 +140,9 @@ fn keeps_the_length_of_a_card(rt: HostRuntime) -> Result<(), Fail> {
     let starts: [(&[u8], usize); 3] = [(b"L NOP", 1), (b"*", 0), (b" ", 0)];
     let why = CutWhy::BadCard;
     for (start, cards) in starts {
-        let card = filled(rt.alloc(), start, b' ', 80)?;
+        let card = text_of_length(rt.alloc(), start, b' ', 80)?;
         assert_eq!(rt; outcome(rt.alloc(), &card)?, (1, cards, None));
-        let card = filled(rt.alloc(), start, b' ', 81)?;
+        let card = text_of_length(rt.alloc(), start, b' ', 81)?;
         assert_eq!(rt;
             outcome(rt.alloc(), &card)?,
             (0, 0, Some(CutFault { card: 1, why }))
@@ -168,7 +175,7 @@ fn keeps_the_number_of_bytes(rt: HostRuntime) -> Result<(), Fail> {
         (b"*\n9X\n", MAX_BYTES, 1, 2, CutWhy::BadCard),
     ];
     for (start, len, lines, card, why) in cases {
-        let bytes = filled(rt.alloc(), start, b'*', len)?;
+        let bytes = text_of_length(rt.alloc(), start, b'*', len)?;
         assert_eq!(rt;
             outcome(rt.alloc(), &bytes)?,
             (lines, 0, Some(CutFault { card, why }))

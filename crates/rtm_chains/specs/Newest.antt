@@ -1,7 +1,7 @@
 -- Where the newest routine that passes a test stands in a list that has the oldest first.
 use Rattle.std.specs.Prelude.{◌≡◌, ℕ, ◌<◌, Bool, List, length, reverse, Some, None, find, remove, slice_index_or, slice_set}
 use Rattle.rtm_model.specs.declared.reg.Reg.{Reg}
-use Rattle.rtm_model.specs.Chains.{without_first, with_in_place, newest_owned, cancelled, overlaid}
+use Rattle.rtm_model.specs.Chains.{without_first, with_in_place, newest_owned, after_cancel, after_overlay}
 
 -- the element at i is the newest that passes the test: what it is, and what taking it away and writing over it leaves
 pub record IsNewest {A : Type 0} (p : A → Bool) (xs : List A) (i : ℕ) : Type 0 where
@@ -20,5 +20,5 @@ pub record IsAbsent {A : Type 0} (p : A → Bool) (xs : List A) : Type 0 where
 pub record IsNewestOwned (depth owner : ℕ) (xs : List Reg) (i : ℕ) : Type 0 where
   pub within : i < length xs
   pub is : (d : Reg) → newest_owned depth owner (reverse xs) ≡ Some (slice_index_or xs i d)
-  pub removed : reverse (remove xs i) ≡ cancelled depth owner (reverse xs)
-  pub replaced : (y : Reg) → reverse (slice_set xs i y) ≡ overlaid depth owner y (reverse xs)
+  pub removed : reverse (remove xs i) ≡ after_cancel depth owner (reverse xs)
+  pub replaced : (y : Reg) → reverse (slice_set xs i y) ≡ after_overlay depth owner y (reverse xs)

@@ -1,7 +1,9 @@
+//! The ESTAE routines of a unit.
+
 ghost use Rattle.std.specs.Prelude.{◌≡◌, ◌≤◌, ◌==◌, ◌||◌, ◌↔◌, nat_le, not, [], ◌∷◌, length, reverse, filter, vec_capacity, IfOk, IfSome, IfNone, IsErr, OnOk, OnErr, None};
 ghost use Rattle.std.specs.Option.{ok_or};
-ghost use Rattle.rtm_model.specs.Births.{born_at, without_newer_owners};
-ghost use Rattle.rtm_model.specs.Chains.{is_of_depth, is_of_owner, newest_of, newest_owned, if_of_owner, next_estae, cancelled, overlaid, without_first, with_in_place, without_born, without_depth, without_owner, after_xctl};
+ghost use Rattle.rtm_model.specs.Births.{routine_born_at, without_newer_owners};
+ghost use Rattle.rtm_model.specs.Chains.{is_of_depth, is_of_owner, newest_of, newest_owned, if_of_owner, next_estae, after_cancel, after_overlay, without_first, with_in_place, without_born, without_depth, without_owner, after_xctl};
 ghost use Rattle.rtm_chains.specs.Newest.{IsNewestOwned};
 ghost use Rattle.rtm_chains.specs.Refused.{not_owned};
 
@@ -12,7 +14,7 @@ use rtm_model::{Full, Reg};
 use std::alloc::Global;
 use std::marker::Model;
 
-/// At most this many living ESTAE routines of a unit (this profile).
+// At most this many living ESTAE routines of a unit (this profile).
 const MOST_ESTAES: usize = 64;
 
 /// The ESTAE routines of a unit (Authorized Assembler Services Guide, "Providing recovery"), at most 64 (this profile).
@@ -76,7 +78,7 @@ fn drop_born(list: &mut Vec<Routine>, born: u32)
     list.retain(|routine| !routine.is_born_at(born));
 }
 
-/// Where the newest routine of the bracket stands, if that request block made it.
+// Where the newest routine of the bracket stands, if that request block made it.
 fn owned_index(list: &[Routine], depth: u8, owner: u32) -> Option<usize>
     ensures there { IfSome result (IsNewestOwned depth owner list.now) }
     ensures absent { IfNone result (newest_owned depth owner (reverse list.now) ≡ None) }
@@ -121,7 +123,7 @@ impl EstaeChain {
 
     /// The routine that ESTAEX OV and ESTAEX 0 speak of: the newest of the bracket of that depth, if that request block made
     /// it.
-    pub fn owned(&self, depth: u8, owner: u32) -> Option<Reg>
+    pub fn newest_owned(&self, depth: u8, owner: u32) -> Option<Reg>
         ensures { result ≡ newest_owned depth owner self.now }
     {
         routine::if_of_owner(owner, routine::newest_of(&self.list, depth))
@@ -131,7 +133,7 @@ impl EstaeChain {
     /// `NotOwned` where the bracket has none, or another request block made it.
     pub fn overlay(&mut self, depth: u8, owner: u32, reg: Reg) -> Result<Reg, NotOwned>
         ensures which { result ≡ ok_or (newest_owned depth owner self.old) not_owned }
-        ensures list { self.new ≡ overlaid depth owner reg self.old }
+        ensures list { self.new ≡ after_overlay depth owner reg self.old }
         ensures err { OnErr result (self.new ≡ self.old) }
     {
         match owned_index(&self.list, depth, owner) {
@@ -144,7 +146,7 @@ impl EstaeChain {
     /// another request block made it.
     pub fn cancel(&mut self, depth: u8, owner: u32) -> Result<Reg, NotOwned>
         ensures which { result ≡ ok_or (newest_owned depth owner self.old) not_owned }
-        ensures list { self.new ≡ cancelled depth owner self.old }
+        ensures list { self.new ≡ after_cancel depth owner self.old }
         ensures err { OnErr result (self.new ≡ self.old) }
     {
         match owned_index(&self.list, depth, owner) {
@@ -194,8 +196,8 @@ impl EstaeChain {
     }
 
     /// The routine that was born at that entry.
-    pub fn born_at(&self, born: u32) -> Option<Reg>
-        ensures { result ≡ born_at born self.now }
+    pub fn routine_born_at(&self, born: u32) -> Option<Reg>
+        ensures { result ≡ routine_born_at born self.now }
     {
         routine::reg_of(routine::newest_born_at(&self.list, born))
     }

@@ -1,6 +1,8 @@
+//! The ESTAI routines of a unit.
+
 ghost use Rattle.std.specs.Prelude.{◌≡◌, ◌≤◌, ◌==◌, not, [], length, filter, vec_capacity, IfOk};
-ghost use Rattle.rtm_model.specs.Births.{born_at};
-ghost use Rattle.rtm_model.specs.Chains.{next_estai, inherited, without_born};
+ghost use Rattle.rtm_model.specs.Births.{routine_born_at};
+ghost use Rattle.rtm_model.specs.Chains.{next_estai, inherited_estais, without_born};
 
 use crate::routine::{self, Routine};
 use rtm_codes::NoMemory;
@@ -8,8 +10,8 @@ use rtm_model::Reg;
 use std::alloc::Global;
 use std::marker::Model;
 
-/// At most this many ESTAI routines of a task: one for it and for each of its ancestors but the job step task, of 64 units
-/// (this profile).
+// At most this many ESTAI routines of a task: one for it and for each of its ancestors but the job step task, of 64 units
+// (this profile).
 const MOST_ESTAIS: usize = 63;
 
 /// The ESTAI routines of a task (Assembler Services Reference, ATTACHX), at most 63 (this profile).
@@ -53,8 +55,8 @@ impl EstaiList {
     /// those of its mother, which keeps them.
     pub fn inherit(&mut self, mother: &EstaiList, own: Option<Reg>)
         requires empty { self.old ≡ [] }
-        requires room { length (inherited own mother.now) ≤ 63 }
-        ensures { self.new ≡ inherited own mother.now }
+        requires room { length (inherited_estais own mother.now) ≤ 63 }
+        ensures { self.new ≡ inherited_estais own mother.now }
     {
         if let Some(reg) = own {
             self.list.push_reserved(Routine { reg });
@@ -72,8 +74,8 @@ impl EstaiList {
     }
 
     /// The routine that was born at that entry.
-    pub fn born_at(&self, born: u32) -> Option<Reg>
-        ensures { result ≡ born_at born self.now }
+    pub fn routine_born_at(&self, born: u32) -> Option<Reg>
+        ensures { result ≡ routine_born_at born self.now }
     {
         routine::reg_of(routine::first_born_at(&self.list, born))
     }

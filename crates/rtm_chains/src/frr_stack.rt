@@ -1,6 +1,8 @@
+//! The functional recovery routines of a unit.
+
 ghost use Rattle.std.specs.Prelude.{◌≡◌, ◌≤◌, ◌==◌, ◌↔◌, not, [], ◌∷◌, length, filter, IsErr, OnOk, OnErr};
 ghost use Rattle.std.specs.Option.{ok_or};
-ghost use Rattle.rtm_model.specs.Births.{born_at};
+ghost use Rattle.rtm_model.specs.Births.{routine_born_at};
 ghost use Rattle.rtm_model.specs.Chains.{is_of_depth, newest_of, without_first, with_in_place, without_born, without_depth};
 ghost use Rattle.rtm_chains.specs.Refused.{empty};
 
@@ -10,7 +12,7 @@ use arrayvec::ArrayVec;
 use rtm_model::{Full, Reg};
 use std::marker::Model;
 
-/// At most this many living FRRs of a unit (this profile).
+// At most this many living FRRs of a unit (this profile).
 const MOST_FRRS: usize = 16;
 
 /// The functional recovery routines of a unit (Authorized Assembler Services Guide, "Providing recovery"), at most 16
@@ -126,8 +128,8 @@ impl FrrStack {
     }
 
     /// The FRR that was born at that entry.
-    pub fn born_at(&self, born: u32) -> Option<Reg>
-        ensures { result ≡ born_at born self.now }
+    pub fn routine_born_at(&self, born: u32) -> Option<Reg>
+        ensures { result ≡ routine_born_at born self.now }
     {
         routine::reg_of(routine::newest_born_at(self.list.as_slice(), born))
     }

@@ -1,3 +1,5 @@
+//! What a list answers to a call that it refuses.
+
 /// No FRR of the bracket is there.
 #[derive(Clone, Copy, Debug, PartialEq, Eq)]
 pub struct Empty;

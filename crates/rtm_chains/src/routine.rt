@@ -1,7 +1,7 @@
 //! What a list of routines holds, and walks along such a list: the oldest stands first, the newest last.
 
 ghost use Rattle.std.specs.Prelude.{◌≡◌, ◌<◌, ◌==◌, ◌&&◌, ◌||◌, nat_le, not, length, reverse, find, position, slice_index_or, slice_set, IfSome, IfNone};
-ghost use Rattle.rtm_model.specs.Births.{born_at};
+ghost use Rattle.rtm_model.specs.Births.{routine_born_at};
 ghost use Rattle.rtm_model.specs.Chains.{is_of_depth, is_of_owner, is_admitted, if_of_owner, newest_of, next_estae, next_estai};
 ghost use Rattle.rtm_chains.specs.Newest.{IsNewest, IsAbsent};
 
@@ -108,7 +108,7 @@ pub(crate) fn if_of_owner(owner: u32, routine: Option<Routine>) -> Option<Reg>
 
 /// The first routine that was born at that entry.
 pub(crate) fn first_born_at(list: &[Routine], born: u32) -> Option<Routine>
-    ensures { result ≡ born_at born list.now }
+    ensures { result ≡ routine_born_at born list.now }
 {
     list.iter()
         .copied()
@@ -117,7 +117,7 @@ pub(crate) fn first_born_at(list: &[Routine], born: u32) -> Option<Routine>
 
 /// The newest routine that was born at that entry.
 pub(crate) fn newest_born_at(list: &[Routine], born: u32) -> Option<Routine>
-    ensures { result ≡ born_at born (reverse list.now) }
+    ensures { result ≡ routine_born_at born (reverse list.now) }
 {
     list.iter()
         .rev()
@@ -154,7 +154,7 @@ pub(crate) fn next_estai(list: &[Routine], term_only: bool) -> Option<Routine>
         .find(|routine| routine.is_admitted(term_only))
 }
 
-/// How many routines are newer than the newest one of the bracket of that depth.
+// How many routines are newer than the newest one of the bracket of that depth.
 fn newer_than_newest(list: &[Routine], depth: u8) -> Option<usize>
     ensures { result ≡ position (is_of_depth depth) (reverse list.now) }
 {

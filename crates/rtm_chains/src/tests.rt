@@ -1,3 +1,5 @@
+//! The three lists of recovery routines, call by call.
+
 use crate::{EstaeChain, EstaiList, FrrStack, Full, Kind, NotOwned, Reg};
 use std::test::Fail;
 
@@ -32,7 +34,7 @@ enum FrrStep {
     Remove(u32),
 }
 
-/// Does the step, and tells the birth of the routine that it adds or gives.
+// Does the step, and tells the birth of the routine that it adds or gives.
 fn frr_step(stack: &mut FrrStack, step: FrrStep) -> Option<u32> {
     match step {
         FrrStep::Add(born, depth) => {
@@ -93,7 +95,7 @@ fn keeps_frrs(rt: HostRuntime) {
         assert!(rt; stack.any() || next == [None, None], "after {step:?}");
     }
     assert_eq!(rt;
-        births([stack.born_at(17), stack.born_at(11)]),
+        births([stack.routine_born_at(17), stack.routine_born_at(11)]),
         [Some(17), None]
     );
     stack.purge(1);
@@ -235,11 +237,11 @@ fn keeps_estaes(rt: HostRuntime) -> Result<(), Fail> {
     );
     assert_eq!(rt; chain.cancel(0, 1).err(), Some(NotOwned));
     assert_eq!(rt;
-        births([chain.owned(0, 0), chain.owned(0, 1)]),
+        births([chain.newest_owned(0, 0), chain.newest_owned(0, 1)]),
         [Some(26), None]
     );
     assert_eq!(rt;
-        births([chain.born_at(10), chain.born_at(24)]),
+        births([chain.routine_born_at(10), chain.routine_born_at(24)]),
         [Some(10), None]
     );
     chain.clear();
@@ -284,7 +286,7 @@ fn inherits_sixty_three_estais(rt: HostRuntime) -> Result<(), Fail> {
             [Some(next), Some(40)]
         );
         assert_eq!(rt;
-            births([task.born_at(born), task.born_at(next)]),
+            births([task.routine_born_at(born), task.routine_born_at(next)]),
             [None, Some(next)]
         );
     }

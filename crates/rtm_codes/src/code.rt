@@ -1,3 +1,5 @@
+//! Completion codes.
+
 ghost use Rattle.std.specs.Prelude.{◌≡◌, ◌↔◌, IsTrue};
 ghost use Rattle.rtm_codes.specs.Code.{IsInRange, in_range};
 

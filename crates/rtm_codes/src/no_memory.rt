@@ -1,3 +1,5 @@
+//! Want of memory.
+
 ghost use Rattle.std.specs.Prelude.{◌≡◌};
 ghost use Rattle.rtm_codes.specs.NoMemory.{no_memory};
 

@@ -1,3 +1,5 @@
+//! Completion codes, as texts and as words.
+
 use crate::{
     Code, NoMemory, code_short, code_text, is_in_range, laws, packed, read_code, unpacked,
 };

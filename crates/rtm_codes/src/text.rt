@@ -1,3 +1,5 @@
+//! The text of a completion code, read and written.
+
 ghost use Rattle.std.specs.Prelude.{◌≡◌, ◌<◌, ◌≤◌, Some, IfSome, IfNone, length};
 ghost use Rattle.rtm_codes.specs.declared.code.Code.{Code};
 ghost use Rattle.rtm_codes.specs.Code.{IsInRange, Spells, digit_char, short_of, text_of};
@@ -106,7 +108,7 @@ fn user_number(digits: &[u8]) -> Option<u16>
     number(digits, 10).filter(|number| *number <= GREATEST_NUMBER)
 }
 
-/// The number of at most four digits in the base, the most significant first.
+// The number of at most four digits in the base, the most significant first.
 fn number(digits: &[u8], base: u16) -> Option<u16>
     requires few_digits { length digits.now ≤ 4 }
     requires small_base { base ≤ 16 }
@@ -119,7 +121,7 @@ fn number(digits: &[u8], base: u16) -> Option<u16>
     Some(number)
 }
 
-/// The digit that the byte stands for in the base.
+// The digit that the byte stands for in the base.
 fn digit(byte: u8, base: u16) -> Option<u16>
     ensures value { result ≡ digit_in base byte }
     ensures below_base { IfSome result (λ digit. digit < base) }
@@ -132,7 +134,7 @@ fn digit(byte: u8, base: u16) -> Option<u16>
     if digit < base { Some(digit) } else { None }
 }
 
-/// The character of a digit: 0 to 9, and then A to F.
+// The character of a digit: 0 to 9, and then A to F.
 fn character(digit: u16) -> u8
     requires { digit < 16 }
     ensures { result ≡ digit_char digit }

@@ -1,13 +1,15 @@
+//! The word of a completion code, as a record holds it.
+
 ghost use Rattle.std.specs.Prelude.{◌≡◌, ◌≢◌, Some, IfSome, IfNone};
 ghost use Rattle.rtm_codes.specs.declared.code.Code.{Code};
 ghost use Rattle.rtm_codes.specs.Code.{IsInRange, packed_of};
 
 use crate::code::{Code, GREATEST_NUMBER};
 
-/// What a system code's number is multiplied by.
+// What a system code's number is multiplied by.
 const SYSTEM_UNIT: u32 = 4096;
 
-/// What is added to a user code's number, the top bit.
+// What is added to a user code's number, the top bit.
 const USER_BIT: u32 = 0x8000_0000;
 
 /// The word of a code in records (this profile): 4096 times a system code's number, or 2147483648

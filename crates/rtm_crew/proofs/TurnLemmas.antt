@@ -2,14 +2,14 @@
 use Rattle.std.proofs.Common.{◌≡◌, ℕ, zero, suc, ◌+◌, ◌-◌, ◌<◌, ◌≤◌, List, [], ◌∷◌, ◌++◌, length, Option, Some, None, refl, sym, ap, ◌∙◌, arith}
 use Rattle.std.specs.Prelude.{IsSome, if◌then◌else◌, is_some}
 use Rattle.std.proofs.lemmas.List.{append_assoc, append-nil, length-append}
-use Rattle.rtm_items.specs.View.{DeckView}
+use Rattle.rtm_deck_items.specs.View.{DeckView}
 use Rattle.rtm_model.specs.declared.entry.End.{End}
 use Rattle.rtm_model.specs.declared.entry.Entry.{Entry}
 use Rattle.rtm_model.specs.Births.{advance, world}
 use Rattle.rtm_model.specs.Legal.{end_in, end_of}
 use Rattle.rtm_model.specs.Turns.{seq, seq_from, seq_more, seq_step, turn_after}
 use Rattle.rtm_model.specs.World.{World, start}
-use Rattle.rtm_sound.proofs.Histories.{world-append, world-nil}
+use Rattle.rtm_law_sound.proofs.Histories.{world-append, world-nil}
 use Rattle.rtm_system.specs.Turned.{IsNext, turn_in, turn_of}
 use Rattle.rtm_system.specs.View.{SystemView}
 use Rattle.rtm_system.proofs.Rounds.{nothing_ends}

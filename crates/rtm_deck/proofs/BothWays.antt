@@ -7,19 +7,19 @@ use Rattle.rtm_cards.specs.Faults.{HasNoFault, lines_before}
 use Rattle.rtm_cards.specs.Faults.{IsFirstFault as IsFirstCutFault}
 use Rattle.rtm_cards.specs.declared.fault.CutFault.{CutFault}
 use Rattle.rtm_cards.proofs.FaultLaws.{fault_or_none}
-use Rattle.rtm_items.specs.declared.why.Why.{Why}
-use Rattle.rtm_items.specs.View.{DeckView}
-use Rattle.rtm_items.specs.Spelling.{DeckText}
-use Rattle.rtm_items.specs.Faults.{IsFirstFault}
-use Rattle.rtm_items.specs.Canon.{canon}
-use Rattle.rtm_spelling.proofs.OneDeck.{one_deck}
-use Rattle.rtm_spelling.proofs.NotBoth.{never_both}
-use Rattle.rtm_spelling.proofs.FirstFault.{one_fault_of_input}
-use Rattle.rtm_canon.proofs.CanonLaws.{canon_short, canon_spells}
+use Rattle.rtm_deck_items.specs.declared.why.Why.{Why}
+use Rattle.rtm_deck_items.specs.View.{DeckView}
+use Rattle.rtm_deck_items.specs.Spelling.{DeckText}
+use Rattle.rtm_deck_items.specs.Faults.{IsFirstFault}
+use Rattle.rtm_deck_items.specs.Canon.{canon}
+use Rattle.rtm_deck_spelling.proofs.OneDeck.{one_deck}
+use Rattle.rtm_deck_spelling.proofs.NotBoth.{never_both}
+use Rattle.rtm_deck_spelling.proofs.FirstFault.{one_fault_of_input}
+use Rattle.rtm_deck_canon.proofs.CanonLaws.{canon_short, canon_spells}
 use Rattle.rtm_deck.specs.declared.fault.DeckFault.{DeckFault}
 use Rattle.rtm_deck.specs.declared.fault.DeckFault.TheVariants.{Memory, Refused}
 use Rattle.rtm_deck.specs.View.{Refusal}
-use Rattle.rtm_deck.specs.Seen.{fresh}
+use Rattle.rtm_deck.specs.Seen.{nothing_seen}
 use Rattle.rtm_deck.specs.Reader.{read_cards, scan}
 use Rattle.rtm_deck.specs.Refusal.{IsRefusalOf, IsThatDeck, IsThatRefusal}
 use Rattle.rtm_deck.proofs.RefusalLaw.{refusal_law, take_all}
@@ -47,7 +47,7 @@ without_fault bytes (Err r) h e =
 
 with_fault : (bytes : List ℕ) (f : CutFault) (y : Result DeckView Refusal) → IsFirstCutFault bytes f
     → read_cards (cards_from 1 (take (lines_before bytes (Some f)) (lines_of bytes))) (lines_before bytes (Some f)) (Some f) ≡ y → Either bytes
-with_fault bytes f (Ok d) h e = absurd (never_judged (lines_before bytes (Some f)) f d (scan [] fresh (cards_from 1 (take (lines_before bytes (Some f)) (lines_of bytes)))) e)
+with_fault bytes f (Ok d) h e = absurd (never_judged (lines_before bytes (Some f)) f d (scan [] nothing_seen (cards_from 1 (take (lines_before bytes (Some f)) (lines_of bytes)))) e)
 with_fault bytes f (Err r) h e = inr (r.card, r.why, refusal_law bytes (Some f) r h e)
 
 -- each input spells a deck or has a first fault

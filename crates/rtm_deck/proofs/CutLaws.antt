@@ -5,16 +5,16 @@ use Rattle.rtm_cards.specs.Lines.{lines_of}
 use Rattle.rtm_cards.specs.Cards.{CardText, cards_from}
 use Rattle.rtm_cards.specs.Faults.{lines_before}
 use Rattle.rtm_cards.specs.declared.fault.CutFault.{CutFault}
-use Rattle.rtm_items.specs.View.{DeckView}
-use Rattle.rtm_items.specs.Spelling.{DeckText}
-use Rattle.rtm_items.specs.Faults.{IsFirstFault}
+use Rattle.rtm_deck_items.specs.View.{DeckView}
+use Rattle.rtm_deck_items.specs.Spelling.{DeckText}
+use Rattle.rtm_deck_items.specs.Faults.{IsFirstFault}
 use Rattle.rtm_deck.specs.View.{Refusal, ScanView}
-use Rattle.rtm_deck.specs.Seen.{fresh}
+use Rattle.rtm_deck.specs.Seen.{nothing_seen}
 use Rattle.rtm_deck.specs.declared.fault.DeckFault.{DeckFault}
 use Rattle.rtm_deck.specs.declared.fault.DeckFault.TheVariants.{Memory, Refused}
 use Rattle.rtm_deck.specs.Refusal.{IsRefusalOf}
 use Rattle.rtm_deck.specs.References.{refusal}
-use Rattle.rtm_deck.specs.Reader.{read_cards, judged, scan, Gives}
+use Rattle.rtm_deck.specs.Reader.{read_cards, deck_or_fault, scan, Gives}
 use Rattle.rtm_deck.proofs.Cuts.{IsCut}
 use Rattle.rtm_deck.proofs.RefusalLaw.{refusal_law, take_all}
 use Rattle.rtm_deck.proofs.DeckLaw.{deck_is_spelled}
@@ -28,7 +28,7 @@ of_cut bytes cards lines fault y cut is =
     subst (λ (n : ℕ). reading bytes n fault ≡ y) cut.lines_are (subst (λ (cs : List CardText). read_cards cs lines fault ≡ y) cut.cards_are is)
 
 -- behind a fault of cutting no deck is read
-pub never_judged : (n : ℕ) (f : CutFault) (d : DeckView) (t : Result ScanView Refusal) → judged n (Some f) t ≡ Ok d → ⊥
+pub never_judged : (n : ℕ) (f : CutFault) (d : DeckView) (t : Result ScanView Refusal) → deck_or_fault n (Some f) t ≡ Ok d → ⊥
 never_judged n f d (Ok t) e = absurd cc
 never_judged n f d (Err r) e = absurd cc
 
@@ -39,7 +39,7 @@ read-spelled bytes cards lines None d cut is =
     let all = lines_of bytes in
     deck_is_spelled bytes d cut.fault_is
     (subst (λ (l : List (List ℕ)). read_cards (cards_from 1 l) (length all) None ≡ Ok d) (take_all all) (of_cut bytes cards lines None (Ok d) cut is))
-read-spelled bytes cards lines (Some f) d cut is = absurd (never_judged lines f d (scan _ fresh cards) is)
+read-spelled bytes cards lines (Some f) d cut is = absurd (never_judged lines f d (scan _ nothing_seen cards) is)
 
 -- a refusal is the first fault
 pub refused-first : (bytes : List ℕ) (cards : List CardText) (lines : ℕ) (fault : Option CutFault) (r : Refusal) →

@@ -4,11 +4,11 @@ use Rattle.std.specs.Prelude.{IsTrue, if◌then◌else◌}
 use Rattle.std.specs.List.{list_all, AllByRecursion}
 use Rattle.std.proofs.lemmas.Bool.{and_from}
 use Rattle.rtm_cards.specs.Cards.{CardText}
-use Rattle.rtm_operands.specs.Reading.{name_in}
-use Rattle.rtm_items.specs.declared.deck.Line.{Line as LineCard}
-use Rattle.rtm_items.specs.View.{DeckView, ProgramView}
-use Rattle.rtm_items.specs.Spelling.{SpellEach}
-use Rattle.rtm_items.specs.WellFormed.{is_unit_of, is_command_of, is_label, is_op, is_program_of, has_label}
+use Rattle.rtm_deck_operands.specs.Reading.{name_in}
+use Rattle.rtm_deck_items.specs.declared.deck.Line.{Line as LineCard}
+use Rattle.rtm_deck_items.specs.View.{DeckView, ProgramView}
+use Rattle.rtm_deck_items.specs.Spelling.{SpellEach}
+use Rattle.rtm_deck_items.specs.WellFormed.{is_unit_of, is_command_of, is_label, is_op, is_program_of, has_label}
 use Rattle.rtm_deck.specs.declared.role.Role.{Role}
 use Rattle.rtm_deck.specs.declared.role.Role.TheVariants.{Region, Program, ProgramEnd, Task, Srb, Commands, Command, End, Line}
 use Rattle.rtm_deck.specs.View.{ReadView, SeenView}

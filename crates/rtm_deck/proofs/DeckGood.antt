@@ -5,25 +5,25 @@ use Rattle.std.specs.List.{list_all, AllByRecursion}
 use Rattle.std.proofs.lemmas.Bool.{and_from, ne_eqb}
 use Rattle.rtm_cards.specs.Cards.{CardText}
 use Rattle.rtm_cards.specs.Name.{is_name, is_name_field}
-use Rattle.rtm_operands.specs.declared.value.Value.{Value}
-use Rattle.rtm_operands.specs.declared.value.Value.TheVariants as values
-use Rattle.rtm_operands.specs.declared.slot.Kind.TheVariants as kinds
-use Rattle.rtm_operands.specs.declared.slot.Slot.{Slot}
-use Rattle.rtm_operands.specs.Name.{padded, trimmed, is_padded_name}
-use Rattle.rtm_operands.specs.Reading.{name_in}
-use Rattle.rtm_operands.specs.Slot.{slot_fits, slots_fit, slot_is_well_made, optional}
-use Rattle.rtm_operands.proofs.Names.{trimmed-padded, is_padded-padded}
-use Rattle.rtm_operands.proofs.SlotReading.{slots_fit-spelled, table_parts}
-use Rattle.rtm_items.specs.declared.deck.UnitKind.TheVariants as kinds_of
-use Rattle.rtm_items.specs.declared.why.Why.{Why}
-use Rattle.rtm_items.specs.declared.form.CardForm.{CardForm}
-use Rattle.rtm_items.specs.declared.form.CardForm.TheVariants as forms
-use Rattle.rtm_items.specs.Forms.{operation_of, slots_of}
-use Rattle.rtm_items.specs.View.{DeckView}
-use Rattle.rtm_items.specs.Items.{some, program_name, unit_name, related_name, label_text, values_of_op}
-use Rattle.rtm_items.specs.Spelling.{SpellsOperands, SpellsForm, SpellsItem}
-use Rattle.rtm_items.specs.WellFormed.{is_program, is_task_in, is_related, is_unit_of, is_command_of, is_label}
-use Rattle.rtm_spelling.proofs.Forms.{form_is_well_made}
+use Rattle.rtm_deck_operands.specs.declared.value.Value.{Value}
+use Rattle.rtm_deck_operands.specs.declared.value.Value.TheVariants as values
+use Rattle.rtm_deck_operands.specs.declared.slot.Kind.TheVariants as kinds
+use Rattle.rtm_deck_operands.specs.declared.slot.Slot.{Slot}
+use Rattle.rtm_deck_operands.specs.Name.{padded_text, trimmed_text, is_padded_name}
+use Rattle.rtm_deck_operands.specs.Reading.{name_in}
+use Rattle.rtm_deck_operands.specs.Slot.{slot_fits, slots_fit, slot_is_well_made, optional_slot}
+use Rattle.rtm_deck_operands.proofs.Names.{trimmed_text-padded_text, is_padded-padded_text}
+use Rattle.rtm_deck_operands.proofs.SlotReading.{slots_fit-spelled, table_parts}
+use Rattle.rtm_deck_items.specs.declared.deck.UnitKind.TheVariants as kinds_of
+use Rattle.rtm_deck_items.specs.declared.why.Why.{Why}
+use Rattle.rtm_deck_items.specs.declared.form.CardForm.{CardForm}
+use Rattle.rtm_deck_items.specs.declared.form.CardForm.TheVariants as forms
+use Rattle.rtm_deck_items.specs.Forms.{operation_of, slots_of}
+use Rattle.rtm_deck_items.specs.View.{DeckView}
+use Rattle.rtm_deck_items.specs.Items.{some, program_name, unit_name, related_name, label_text, values_of_op}
+use Rattle.rtm_deck_items.specs.Spelling.{SpellsOperands, SpellsForm, SpellsItem}
+use Rattle.rtm_deck_items.specs.WellFormed.{is_program, is_task_in, is_related, is_unit_of, is_command_of, is_label}
+use Rattle.rtm_deck_spelling.proofs.Forms.{form_is_well_made}
 use Rattle.rtm_deck.specs.declared.reference.Reference.{Reference}
 use Rattle.rtm_deck.specs.declared.reference.Reference.TheVariants.{ATask}
 use Rattle.rtm_deck.specs.declared.role.Role.{Role}
@@ -31,7 +31,7 @@ use Rattle.rtm_deck.specs.declared.role.Role.TheVariants.{Task, Srb, Command, Li
 use Rattle.rtm_deck.specs.View.{ReadView, SeenView, Refusal}
 use Rattle.rtm_deck.specs.Roles.{role_of, is_line, is_misnamed_role}
 use Rattle.rtm_deck.specs.References.{references, finds_value, first_unfound, nameless_or, why_unfound}
-use Rattle.rtm_deck.specs.Operations.{no_name, named_in, named_at, number_at, flag_at, value_at, op_of}
+use Rattle.rtm_deck.specs.Operations.{no_name, named_number_in, named_number_at, number_at, flag_at, value_at, op_of}
 use Rattle.rtm_deck.specs.Building.{unit_of}
 use Rattle.rtm_deck.proofs.DeckWalk.{Step}
 use Rattle.rtm_deck.proofs.DeckOps.{Places, FindsEach, for_shapes, cons, number_said, number_most, flag_said, program_said, program_there, task_said, task_there, Said, said}
@@ -46,21 +46,21 @@ no_bytes (b ∷ bs) e =
     let none : ((length (b ∷ bs) == 0) || false) ≡ false = ap (λ t. t || false) (ne_eqb (length (b ∷ bs)) 0 (λ h. absurd (omega (arith, h)))) in
     let clash : false ≡ true = sym none ∙ e in absurd cc
 
-label_if : (text : List ℕ) (b : Bool) → is_name text ≡ b → (length text == 0 || b) ≡ true → text ≡ label_text (if b then Some (padded text) else None)
-label_if text true e h = sym (trimmed-padded text e)
+label_if : (text : List ℕ) (b : Bool) → is_name text ≡ b → (length text == 0 || b) ≡ true → text ≡ label_text (if b then Some (padded_text text) else None)
+label_if text true e h = sym (trimmed_text-padded_text text e)
 label_if text false e h = no_bytes text h
 
 label_read : (text : List ℕ) → IsTrue (is_name_field text) → text ≡ label_text (name_in text)
 label_read text h = label_if text (is_name text) refl h
 
-label_padded : (text : List ℕ) (b : Bool) → is_name text ≡ b → IsTrue (is_label (if b then Some (padded text) else None))
-label_padded text true e = is_padded-padded text e
+label_padded : (text : List ℕ) (b : Bool) → is_name text ≡ b → IsTrue (is_label (if b then Some (padded_text text) else None))
+label_padded text true e = is_padded-padded_text text e
 label_padded text false e = refl
 
 pub read_label : (text : List ℕ) → IsTrue (is_label (name_in text))
 read_label text = label_padded text (is_name text) refl
 
-name_read : (text : List ℕ) (o : Option (List ℕ)) → IsTrue (is_name_field text) → o ≡ name_in text → is_none o ≡ false → text ≡ trimmed (unwrap_or o no_name)
+name_read : (text : List ℕ) (o : Option (List ℕ)) → IsTrue (is_name_field text) → o ≡ name_in text → is_none o ≡ false → text ≡ trimmed_text (unwrap_or o no_name)
 name_read text None h e g = absurd cc
 name_read text (Some name) h e g = label_read text h ∙ ap label_text (sym e)
 
@@ -103,35 +103,35 @@ Fields cs = AllByRecursion (λ (c : CardText). IsTrue (is_name_field c.name)) cs
 
 module _ (e : SeenView) (d : DeckView) (places : Places e d) where
   record TaskValues (vs : List (Option Value)) : Type 0 where
-    same : program_name d (named_at e.programs vs 0) ∷ [] ≡ vs
-    there : IsTrue (is_program d (named_at e.programs vs 0))
+    same : program_name d (named_number_at e.programs vs 0) ∷ [] ≡ vs
+    there : IsTrue (is_program d (named_number_at e.programs vs 0))
 
   task_values : (own : List (List ℕ)) (vs : List (Option Value)) → IsTrue (slots_fit (slots_of forms.Task) vs) → FindsEach e own (references forms.Task) vs → TaskValues vs
   task_values own vs h = for_shapes (slots_of forms.Task) (λ vs. FindsEach e own (references forms.Task) vs → TaskValues vs)
       (λ v h found. record { same = cons (program_said e d places own v h found.0) refl; there = program_there e d places own v h found.0 }) vs h
 
-  related_said : (own : List (List ℕ)) (v : Option Value) → IsTrue (slot_fits (optional [] kinds.Name) v) → finds_value e own ATask v ≡ true → related_name d (named_in e.units v) ≡ v
+  related_said : (own : List (List ℕ)) (v : Option Value) → IsTrue (slot_fits (optional_slot [] kinds.Name) v) → finds_value e own ATask v ≡ true → related_name d (named_number_in e.units v) ≡ v
   related_said own None h f = refl
   related_said own (Some (values.Name name)) h f = places.task_said name f
   related_said own _ h f = absurd cc
 
-  related_there : (own : List (List ℕ)) (v : Option Value) → IsTrue (slot_fits (optional [] kinds.Name) v) → finds_value e own ATask v ≡ true → IsTrue (is_related d kinds_of.Srb (named_in e.units v))
+  related_there : (own : List (List ℕ)) (v : Option Value) → IsTrue (slot_fits (optional_slot [] kinds.Name) v) → finds_value e own ATask v ≡ true → IsTrue (is_related d kinds_of.Srb (named_number_in e.units v))
   related_there own None h f = refl
   related_there own (Some (values.Name name)) h f = places.task_there name f
   related_there own _ h f = absurd cc
 
   record SrbValues (vs : List (Option Value)) : Type 0 where
-    same : program_name d (named_at e.programs vs 0) ∷ related_name d (named_in e.units (value_at vs 1)) ∷ [] ≡ vs
-    there : IsTrue (is_program d (named_at e.programs vs 0))
-    related : IsTrue (is_related d kinds_of.Srb (named_in e.units (value_at vs 1)))
+    same : program_name d (named_number_at e.programs vs 0) ∷ related_name d (named_number_in e.units (value_at vs 1)) ∷ [] ≡ vs
+    there : IsTrue (is_program d (named_number_at e.programs vs 0))
+    related : IsTrue (is_related d kinds_of.Srb (named_number_in e.units (value_at vs 1)))
 
   srb_values : (own : List (List ℕ)) (vs : List (Option Value)) → IsTrue (slots_fit (slots_of forms.Srb) vs) → FindsEach e own (references forms.Srb) vs → SrbValues vs
   srb_values own vs h = for_shapes (slots_of forms.Srb) (λ vs. FindsEach e own (references forms.Srb) vs → SrbValues vs)
       (λ v h w k found. record { same = cons (program_said e d places own v h found.0) (cons (related_said own w k found.1.0) refl); there = program_there e d places own v h found.0; related = related_there own w k found.1.0 }) vs h
 
   record CancelValues (vs : List (Option Value)) : Type 0 where
-    same : unit_name d (named_at e.units vs 0) ∷ some (values.Number (number_at vs 1)) ∷ some (values.Flag (flag_at vs 2)) ∷ [] ≡ vs
-    there : IsTrue (is_task_in d (named_at e.units vs 0))
+    same : unit_name d (named_number_at e.units vs 0) ∷ some (values.Number (number_at vs 1)) ∷ some (values.Flag (flag_at vs 2)) ∷ [] ≡ vs
+    there : IsTrue (is_task_in d (named_number_at e.units vs 0))
     most : IsTrue (nat_le (number_at vs 1) 100000)
 
   cancel_values : (own : List (List ℕ)) (vs : List (Option Value)) → IsTrue (slots_fit (slots_of forms.Cancel) vs) → FindsEach e own (references forms.Cancel) vs → CancelValues vs
@@ -141,8 +141,8 @@ module _ (e : SeenView) (d : DeckView) (places : Places e d) where
   -- what holds of the unit or the command that a card says
   abbrev pub Fine : Role → ReadView → Type 0
   Fine Task r = IsTrue (is_unit_of d (unit_of e r kinds_of.Task None))
-  Fine Srb r = IsTrue (is_unit_of d (unit_of e r kinds_of.Srb (named_in e.units (value_at r.values 1))))
-  Fine Command r = IsTrue (is_command_of d (record { target = named_at e.units r.values 0; at = number_at r.values 1; dump = flag_at r.values 2 }))
+  Fine Srb r = IsTrue (is_unit_of d (unit_of e r kinds_of.Srb (named_number_in e.units (value_at r.values 1))))
+  Fine Command r = IsTrue (is_command_of d (record { target = named_number_at e.units r.values 0; at = number_at r.values 1; dump = flag_at r.values 2 }))
   Fine _ r = Unit {0}
 
   -- the card says what is read, and that is fine

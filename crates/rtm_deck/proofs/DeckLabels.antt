@@ -4,9 +4,9 @@ use Rattle.std.specs.Prelude.{IsTrue, bytes_eq, ◌==◌, if◌then◌else◌}
 use Rattle.std.specs.Option.{option_map_or}
 use Rattle.std.specs.List.{list_any}
 use Rattle.rtm_cards.specs.Cards.{CardText}
-use Rattle.rtm_items.specs.declared.deck.Line.{Line as LineCard}
-use Rattle.rtm_items.specs.View.{ProgramView}
-use Rattle.rtm_items.specs.WellFormed.{are_distinct, labels_in, has_label}
+use Rattle.rtm_deck_items.specs.declared.deck.Line.{Line as LineCard}
+use Rattle.rtm_deck_items.specs.View.{ProgramView}
+use Rattle.rtm_deck_items.specs.WellFormed.{are_distinct, labels_in, has_label}
 use Rattle.rtm_deck.specs.declared.role.Role.{Role}
 use Rattle.rtm_deck.specs.declared.role.Role.TheVariants.{Region, Program, ProgramEnd, Task, Srb, Commands, Command, End, Line}
 use Rattle.rtm_deck.specs.View.{ReadView, SeenView}

@@ -2,18 +2,18 @@
 use Rattle.std.proofs.Common.{◌≡◌, ℕ, Bool, true, false, not, ◌||◌, List, [], ◌∷◌, Option, None, refl, ap, sym, ◌⊎◌, inl, inr}
 use Rattle.std.specs.Prelude.{IsTrue, unwrap_or}
 use Rattle.rtm_cards.specs.Cards.{CardText}
-use Rattle.rtm_items.specs.Faults.{differ}
-use Rattle.rtm_items.specs.declared.deck.Line.{Line as LineCard}
-use Rattle.rtm_items.specs.declared.deck.UnitKind.TheVariants as kinds
-use Rattle.rtm_items.specs.Items.{Item, LimitCard, ProgramStart, ProgramCard, ProgramEnd as ProgramLast, UnitOfWork, CommandsStart, CommandCard, DeckEnd, Block, ProgramBlock, UnitBlock}
-use Rattle.rtm_items.specs.Spelling.{programs_in, units_in}
-use Rattle.rtm_spelling.proofs.LaidOut.{lines_then, blocks_then, commands_then_end, closing}
+use Rattle.rtm_deck_items.specs.Faults.{differ}
+use Rattle.rtm_deck_items.specs.declared.deck.Line.{Line as LineCard}
+use Rattle.rtm_deck_items.specs.declared.deck.UnitKind.TheVariants as kinds
+use Rattle.rtm_deck_items.specs.Items.{Item, LimitCard, ProgramStart, ProgramCard, ProgramEnd as ProgramLast, UnitOfWork, CommandsStart, CommandCard, DeckEnd, Block, ProgramBlock, UnitBlock}
+use Rattle.rtm_deck_items.specs.Spelling.{programs_in, units_in}
+use Rattle.rtm_deck_spelling.proofs.LaidOut.{lines_then, blocks_then, commands_then_end, closing}
 use Rattle.rtm_deck.specs.declared.role.Role.{Role}
 use Rattle.rtm_deck.specs.declared.role.Role.TheVariants.{Region, Program, ProgramEnd, Task, Srb, Commands, Command, End, Line}
 use Rattle.rtm_deck.specs.View.{ReadView, SeenView}
 use Rattle.rtm_deck.specs.Roles.{role_of, is_inside_role, is_misnamed_role}
 use Rattle.rtm_deck.specs.Seen.{after, is_unordered, is_doubled_name, is_beyond, lacks_task_role}
-use Rattle.rtm_deck.specs.Operations.{no_name, named_in, named_at, number_at, flag_at, value_at}
+use Rattle.rtm_deck.specs.Operations.{no_name, named_number_in, named_number_at, number_at, flag_at, value_at}
 use Rattle.rtm_deck.specs.Building.{line_of, lines_from, program_of, programs_from, unit_of, units_from, commands_from, limit_from}
 use Rattle.rtm_deck.proofs.DeckWalk.{Step, Walk}
 
@@ -50,9 +50,9 @@ item_at x Region r = LimitCard (number_at r.values 0)
 item_at x Program r = ProgramStart (unwrap_or r.name no_name)
 item_at x ProgramEnd r = ProgramLast
 item_at x Task r = UnitOfWork (unit_of x r kinds.Task None)
-item_at x Srb r = UnitOfWork (unit_of x r kinds.Srb (named_in x.units (value_at r.values 1)))
+item_at x Srb r = UnitOfWork (unit_of x r kinds.Srb (named_number_in x.units (value_at r.values 1)))
 item_at x Commands r = CommandsStart
-item_at x Command r = CommandCard (record { target = named_at x.units r.values 0; at = number_at r.values 1; dump = flag_at r.values 2 })
+item_at x Command r = CommandCard (record { target = named_number_at x.units r.values 0; at = number_at r.values 1; dump = flag_at r.values 2 })
 item_at x End r = DeckEnd
 item_at x Line r = ProgramCard (line_of x r)
 
@@ -176,10 +176,10 @@ outer_step s x e cs r rs false i o n st more Srb is f w =
     let items = m.items in let programs = m.programs in let units = m.units in let commands = m.commands in let limit = m.limit in
     record {
       oper = m.oper;
-      blocks = UnitBlock (unit_of x r kinds.Srb (named_in x.units (value_at r.values 1))) ∷ m.blocks;
+      blocks = UnitBlock (unit_of x r kinds.Srb (named_number_in x.units (value_at r.values 1))) ∷ m.blocks;
       items = rw is (ap (λ (ys : List Item). item_at x Srb r ∷ ys) items);
       programs = rw is programs;
-      units = rw is (ap (λ ys. unit_of x r kinds.Srb (named_in x.units (value_at r.values 1)) ∷ ys) units);
+      units = rw is (ap (λ ys. unit_of x r kinds.Srb (named_number_in x.units (value_at r.values 1)) ∷ ys) units);
       commands = λ t. rw is (commands t);
       limit = rw is limit;
     }

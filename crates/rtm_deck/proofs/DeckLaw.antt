@@ -12,29 +12,29 @@ use Rattle.rtm_cards.specs.Cards.{CardText, card_of, cards_from}
 use Rattle.rtm_cards.specs.Rules.{fault_of, is_ignored}
 use Rattle.rtm_cards.specs.Faults.{NoCutFault, HasNoFault}
 use Rattle.rtm_cards.proofs.CardForm.{card_form}
-use Rattle.rtm_operands.specs.declared.value.Value.{Value}
-use Rattle.rtm_operands.specs.Slot.{slots_fit}
-use Rattle.rtm_items.specs.declared.deck.Command.{Command as CommandCard}
-use Rattle.rtm_items.specs.declared.deck.Unit.{Unit as UnitCard}
-use Rattle.rtm_items.specs.declared.form.CardForm.{CardForm}
-use Rattle.rtm_items.specs.declared.form.CardForm.TheVariants as forms
-use Rattle.rtm_items.specs.Forms.{slots_of}
-use Rattle.rtm_items.specs.View.{ProgramView, DeckView}
-use Rattle.rtm_items.specs.Reading.{is_task_card}
-use Rattle.rtm_items.specs.Items.{Item, Block, ProgramBlock, UnitBlock, items_of}
-use Rattle.rtm_items.specs.Spelling.{SpellsDeck, SpellEach, DeckText, programs_in, units_in}
-use Rattle.rtm_items.specs.WellFormed.{are_distinct, is_well_formed, keeps_limits, has_distinct_names, region_cards, program_cards, command_cards, cards_needed}
-use Rattle.rtm_spelling.proofs.LaidOut.{lines_then, blocks_then, commands_then_end, closing, opening, laid, laid_out}
-use Rattle.rtm_spelling.proofs.NoFormFault.{cut_from_one}
+use Rattle.rtm_deck_operands.specs.declared.value.Value.{Value}
+use Rattle.rtm_deck_operands.specs.Slot.{slots_fit}
+use Rattle.rtm_deck_items.specs.declared.deck.Command.{Command as CommandCard}
+use Rattle.rtm_deck_items.specs.declared.deck.Unit.{Unit as UnitCard}
+use Rattle.rtm_deck_items.specs.declared.form.CardForm.{CardForm}
+use Rattle.rtm_deck_items.specs.declared.form.CardForm.TheVariants as forms
+use Rattle.rtm_deck_items.specs.Forms.{slots_of}
+use Rattle.rtm_deck_items.specs.View.{ProgramView, DeckView}
+use Rattle.rtm_deck_items.specs.Reading.{is_task_card}
+use Rattle.rtm_deck_items.specs.Items.{Item, Block, ProgramBlock, UnitBlock, items_of}
+use Rattle.rtm_deck_items.specs.Spelling.{SpellsDeck, SpellEach, DeckText, programs_in, units_in}
+use Rattle.rtm_deck_items.specs.WellFormed.{are_distinct, is_well_formed, keeps_limits, has_distinct_names, region_cards, program_cards, command_cards, cards_needed}
+use Rattle.rtm_deck_spelling.proofs.LaidOut.{lines_then, blocks_then, commands_then_end, closing, opening, laid, laid_out}
+use Rattle.rtm_deck_spelling.proofs.NoFormFault.{cut_from_one}
 use Rattle.rtm_deck.specs.declared.role.Role.{Role}
 use Rattle.rtm_deck.specs.declared.role.Role.TheVariants.{Region, Program, ProgramEnd, Task, Srb, Commands, Command, End, Line}
 use Rattle.rtm_deck.specs.View.{ReadView, SeenView, ScanView, Refusal}
 use Rattle.rtm_deck.specs.Roles.{role_of}
-use Rattle.rtm_deck.specs.Seen.{fresh, after, has_name}
+use Rattle.rtm_deck.specs.Seen.{nothing_seen, after, has_name}
 use Rattle.rtm_deck.specs.References.{first_nameless, refusal}
 use Rattle.rtm_deck.specs.Operations.{number_at}
 use Rattle.rtm_deck.specs.Building.{programs_from, units_from, commands_from, limit_from, deck_of}
-use Rattle.rtm_deck.specs.Reader.{scanned, scan, named, why_unended, resolved, judged, read_cards}
+use Rattle.rtm_deck.specs.Reader.{scan_of, scan, deck_if_named, why_unended, deck_if_ended, deck_or_fault, read_cards}
 use Rattle.rtm_deck.proofs.SameNames.{eq_refl}
 use Rattle.rtm_deck.proofs.DeckWalk.{Walk, walked}
 use Rattle.rtm_deck.proofs.DeckOps.{for_shapes, number_least, number_most, Places}
@@ -154,11 +154,11 @@ from_outer x rs o =
     let limit = o.limit in
     record { region = false; oper = o.oper; blocks = o.blocks; items = o.items; programs = o.programs; units = o.units; limit = λ _. limit; commands = o.commands; least = rw limit refl; most = rw limit refl }
 
-opened_first : (e : SeenView) (c : CardText) (cs : List CardText) (r : ReadView) (rs : List ReadView) → e.ended ≡ true → Walk fresh (c ∷ cs) (r ∷ rs) e → (b : Bool) → is_region (role_of r.form) ≡ b → (role : Role) → role_of r.form ≡ role → is_region role ≡ b
-    → Walk (after fresh role r.name) cs rs e → Opened e (r ∷ rs)
-opened_first e c cs r rs n w false t role is k v = from_outer e (r ∷ rs) (outer false fresh e e (c ∷ cs) (r ∷ rs) refl refl refl (inr t) n w)
+opened_first : (e : SeenView) (c : CardText) (cs : List CardText) (r : ReadView) (rs : List ReadView) → e.ended ≡ true → Walk nothing_seen (c ∷ cs) (r ∷ rs) e → (b : Bool) → is_region (role_of r.form) ≡ b → (role : Role) → role_of r.form ≡ role → is_region role ≡ b
+    → Walk (after nothing_seen role r.name) cs rs e → Opened e (r ∷ rs)
+opened_first e c cs r rs n w false t role is k v = from_outer e (r ∷ rs) (outer false nothing_seen e e (c ∷ cs) (r ∷ rs) refl refl refl (inr t) n w)
 opened_first e c cs r rs n w true t Region is k v =
-    let o = outer false (after fresh Region r.name) e e cs rs refl refl refl (inl refl) n v in
+    let o = outer false (after nothing_seen Region r.name) e e cs rs refl refl refl (inl refl) n v in
     let items = o.items in let programs = o.programs in let units = o.units in let commands = o.commands in
     let fits = fit r.form c.operands r.values w.0.spells in
     let least = region_least r.form r.values is fits in
@@ -184,7 +184,7 @@ opened_first e c cs r rs n w true t Command is k v = absurd cc
 opened_first e c cs r rs n w true t End is k v = absurd cc
 opened_first e c cs r rs n w true t Line is k v = absurd cc
 
-opened : (e : SeenView) (cs : List CardText) (rs : List ReadView) → e.ended ≡ true → Walk fresh cs rs e → Opened e rs
+opened : (e : SeenView) (cs : List CardText) (rs : List ReadView) → e.ended ≡ true → Walk nothing_seen cs rs e → Opened e rs
 opened e [] [] n w = let h = ap (λ (t : SeenView). t.ended) w in absurd cc
 opened e (c ∷ cs) [] n w = absurd w
 opened e [] (r ∷ rs) n w = absurd w
@@ -208,11 +208,11 @@ record Spelled (cards : List CardText) (d : DeckView) : Type 0 where
   spelled : SpellsDeck cards d
   well_formed : IsTrue (is_well_formed d)
 
-core : (cards : List CardText) (rs : List ReadView) (e : SeenView) → Walk fresh cards rs e → Fields cards → length cards ≤ 10000 → e.ended ≡ true → first_nameless e [] rs ≡ None → Spelled cards (deck_of (scanned rs e))
+core : (cards : List CardText) (rs : List ReadView) (e : SeenView) → Walk nothing_seen cards rs e → Fields cards → length cards ≤ 10000 → e.ended ≡ true → first_nameless e [] rs ≡ None → Spelled cards (deck_of (scan_of rs e))
 core cards rs e w fields few n h =
-    let d : DeckView = deck_of (scanned rs e) in
+    let d : DeckView = deck_of (scan_of rs e) in
     let o = opened e cards rs n w in
-    let s = sums fresh e e cards rs w in
+    let s = sums nothing_seen e e cards rs w in
     let few_programs : length e.programs ≤ 256 = s.few_programs (omega arith) in
     let few_units : length e.units ≤ 64 = s.few_units (omega arith) in
     let few_commands : length (commands_from e rs) + 0 ≤ 64 = s.few_commands (omega arith) in
@@ -225,10 +225,10 @@ core cards rs e w fields few n h =
       distinct = s.distinct_units refl;
       tasks = tasks;
       srbs = λ name t. sym (s.srbs name) ∙ t;
-      labels = λ name t. sym (labels_seen false fresh e e name cards rs refl w) ∙ t;
+      labels = λ name t. sym (labels_seen false nothing_seen e e name cards rs refl w) ∙ t;
     } in
     let p : Places e d = places e d numbers in
-    let all : AllGood e d p cards rs = all_good e d p [] fresh cards rs fields w h in
+    let all : AllGood e d p cards rs = all_good e d p [] nothing_seen cards rs fields w h in
     let each : SpellEach d cards (items_of o.region o.oper o.blocks d) = subst (λ (items : List Item). SpellEach d cards items) (o.items ∙ sym (laid_out o.region o.oper o.blocks d)) all.each in
     let count : length cards ≡ length (laid o.region o.oper o.blocks d) = each_count d cards (items_of o.region o.oper o.blocks d) each ∙ ap (λ (items : List Item). length items) (laid_out o.region o.oper o.blocks d) in
     let need : cards_needed d ≤ length (laid o.region o.oper o.blocks d) = needed o.region o.oper o.blocks d o.programs o.units o.limit o.commands in
@@ -244,15 +244,15 @@ core cards rs e w fields few n h =
     let names : IsTrue (has_distinct_names d) = and_from _ _
     (subst (λ (ns : List (List ℕ)). IsTrue (are_distinct ns)) s.programs (s.distinct_programs refl))
     (subst (λ (ns : List (List ℕ)). IsTrue (are_distinct ns)) s.units (s.distinct_units refl)) in
-    let task : IsTrue (list_any is_task_card d.units) = task_there e.tasks d.units (has_task fresh e cards rs w refl n) tasks in
+    let task : IsTrue (list_any is_task_card d.units) = task_there e.tasks d.units (has_task nothing_seen e cards rs w refl n) tasks in
     record {
       spelled = record { region = o.region; oper = o.oper; blocks = o.blocks; programs = o.programs; units = o.units; limit = o.limit; commands = o.commands; each = each };
-      well_formed = and_from _ _ (and_from _ _ (and_from _ _ (and_from _ _ (and_from _ _ limits names) task) (programs_fine e d p [] fresh cards rs w h)) all.units) all.commands;
+      well_formed = and_from _ _ (and_from _ _ (and_from _ _ (and_from _ _ (and_from _ _ limits names) task) (programs_fine e d p [] nothing_seen cards rs w h)) all.units) all.commands;
     }
 
 -- What a result that is a deck says.
 
-deck_is : (t : ScanView) (o : Option Refusal) (d : DeckView) → named t o ≡ Ok d → (o ≡ None) × (deck_of t ≡ d)
+deck_is : (t : ScanView) (o : Option Refusal) (d : DeckView) → deck_if_named t o ≡ Ok d → (o ≡ None) × (deck_of t ≡ d)
 deck_is t (Some r) d h = absurd cc
 deck_is t None d h = (refl, cc)
 
@@ -260,17 +260,17 @@ ended_if : (t : ScanView) (b : Bool) (o : Result DeckView Refusal) (r : Refusal)
 ended_if t true o r d h = (refl, h)
 ended_if t false o r d h = absurd cc
 
-scanned_deck : (cards : List CardText) (lines : ℕ) (d : DeckView) (t : ScanView) → scan [] fresh cards ≡ Ok t → Fields cards → length cards ≤ 10000 → resolved lines t ≡ Ok d → Spelled cards d
+scanned_deck : (cards : List CardText) (lines : ℕ) (d : DeckView) (t : ScanView) → scan [] nothing_seen cards ≡ Ok t → Fields cards → length cards ≤ 10000 → deck_if_ended lines t ≡ Ok d → Spelled cards d
 scanned_deck cards lines d t e fields few h =
-    let w = walked [] fresh cards t e in
-    let end = ended_if t t.seen.ended (named t (first_nameless t.seen [] t.reads)) (refusal (lines + 1) (why_unended t.seen)) d h in
+    let w = walked [] nothing_seen cards t e in
+    let end = ended_if t t.seen.ended (deck_if_named t (first_nameless t.seen [] t.reads)) (refusal (lines + 1) (why_unended t.seen)) d h in
     let deck = deck_is t (first_nameless t.seen [] t.reads) d end.1 in
     let reads : t.reads ≡ w.others = w.all in
     let none : first_nameless t.seen [] w.others ≡ None = ap (λ (rs : List ReadView). first_nameless t.seen [] rs) (sym reads) ∙ deck.0 in
-    let same : deck_of (scanned w.others t.seen) ≡ d = ap (λ (rs : List ReadView). deck_of (scanned rs t.seen)) (sym reads) ∙ deck.1 in
+    let same : deck_of (scan_of w.others t.seen) ≡ d = ap (λ (rs : List ReadView). deck_of (scan_of rs t.seen)) (sym reads) ∙ deck.1 in
     subst (λ (x : DeckView). Spelled cards x) same (core cards w.others t.seen w.walk fields few end.0 none)
 
-judged_deck : (cards : List CardText) (lines : ℕ) (d : DeckView) (o : Result ScanView Refusal) → scan [] fresh cards ≡ o → Fields cards → length cards ≤ 10000 → judged lines None o ≡ Ok d → Spelled cards d
+judged_deck : (cards : List CardText) (lines : ℕ) (d : DeckView) (o : Result ScanView Refusal) → scan [] nothing_seen cards ≡ o → Fields cards → length cards ≤ 10000 → deck_or_fault lines None o ≡ Ok d → Spelled cards d
 judged_deck cards lines d (Err r) e fields few h = absurd cc
 judged_deck cards lines d (Ok t) e fields few h = scanned_deck cards lines d t e fields few h
 
@@ -280,5 +280,5 @@ deck_is_spelled bytes d cut h =
     let cards = cards_from 1 (lines_of bytes) in
     let few : length cards ≤ 10000 = omega (arith, fewer_cards 1 (lines_of bytes), few_lines (lines_of bytes) cut.cards) in
     let fields = fields_from 1 (lines_of bytes) (cut_from_one (lines_of bytes) cut.cards) in
-    let s = judged_deck cards (length (lines_of bytes)) d (scan [] fresh cards) refl fields few h in
+    let s = judged_deck cards (length (lines_of bytes)) d (scan [] nothing_seen cards) refl fields few h in
     record { cut = cut; spelled = s.spelled; well_formed = s.well_formed }

@@ -5,27 +5,27 @@ use Rattle.std.specs.Option.{option_map}
 use Rattle.std.specs.List.{list_any}
 use Rattle.std.proofs.lemmas.Bool.{and_parts, and_from, leb-true, le-leb, lt-ltb, not-true, eqb-false, eqb-true}
 use Rattle.rtm_codes.specs.declared.code.Code.TheVariants.{Sys, User}
-use Rattle.rtm_operands.specs.declared.value.Value.{Value}
-use Rattle.rtm_operands.specs.declared.value.Value.TheVariants as values
-use Rattle.rtm_operands.specs.declared.value.Res.TheVariants as classes
-use Rattle.rtm_operands.specs.declared.slot.Kind.TheVariants as kinds
-use Rattle.rtm_operands.specs.declared.slot.Slot.{Slot}
-use Rattle.rtm_operands.specs.Name.{is_padded_name}
-use Rattle.rtm_operands.specs.Slot.{slot_fits, slots_fit, positional, optional}
-use Rattle.rtm_items.specs.declared.deck.Line.{Line}
-use Rattle.rtm_items.specs.declared.form.CardForm.{CardForm}
-use Rattle.rtm_items.specs.declared.form.CardForm.TheVariants as forms
-use Rattle.rtm_items.specs.Forms.{slots_of, needs_some}
-use Rattle.rtm_items.specs.View.{DeckView}
-use Rattle.rtm_items.specs.Items.{some, program_name, unit_name, form_of_op, values_of_op}
-use Rattle.rtm_items.specs.WellFormed.{is_code, is_abend_code, is_reason, is_setrp_rc, is_setrp_code, is_program, is_task_in, is_srb_in, is_own_label, is_retry_label, has_label, has_label_anywhere, is_op}
+use Rattle.rtm_deck_operands.specs.declared.value.Value.{Value}
+use Rattle.rtm_deck_operands.specs.declared.value.Value.TheVariants as values
+use Rattle.rtm_deck_operands.specs.declared.value.Res.TheVariants as classes
+use Rattle.rtm_deck_operands.specs.declared.slot.Kind.TheVariants as kinds
+use Rattle.rtm_deck_operands.specs.declared.slot.Slot.{Slot}
+use Rattle.rtm_deck_operands.specs.Name.{is_padded_name}
+use Rattle.rtm_deck_operands.specs.Slot.{slot_fits, slots_fit, positional_slot, optional_slot}
+use Rattle.rtm_deck_items.specs.declared.deck.Line.{Line}
+use Rattle.rtm_deck_items.specs.declared.form.CardForm.{CardForm}
+use Rattle.rtm_deck_items.specs.declared.form.CardForm.TheVariants as forms
+use Rattle.rtm_deck_items.specs.Forms.{slots_of, needs_some}
+use Rattle.rtm_deck_items.specs.View.{DeckView}
+use Rattle.rtm_deck_items.specs.Items.{some, program_name, unit_name, form_of_op, values_of_op}
+use Rattle.rtm_deck_items.specs.WellFormed.{is_code, is_abend_code, is_reason, is_setrp_rc, is_setrp_code, is_program, is_task_in, is_srb_in, is_own_label, is_retry_label, has_label, has_label_anywhere, is_op}
 use Rattle.rtm_deck.specs.declared.reference.Reference.{Reference}
 use Rattle.rtm_deck.specs.declared.reference.Reference.TheVariants.{AProgram, ATask, AnSrb, OwnLabel, AnyLabel}
 use Rattle.rtm_deck.specs.View.{SeenView}
 use Rattle.rtm_deck.specs.Roles.{role_of, is_line}
 use Rattle.rtm_deck.specs.Seen.{has_name}
 use Rattle.rtm_deck.specs.References.{references, finds_value}
-use Rattle.rtm_deck.specs.Operations.{flag_in, number_in, reason_in, code_in, name_in, three_in, class_in, narrow, index_in, named_in, no_name, op_of}
+use Rattle.rtm_deck.specs.Operations.{flag_in, number_in, reason_in, code_in, name_in, three_in, class_in, narrow, index_in, named_number_in, no_name, op_of}
 
 -- Names that are there have the numbers of what they name.
 pub record Places (e : SeenView) (d : DeckView) : Type 0 where
@@ -61,59 +61,59 @@ cons e f = λ j. e j ∷ f j
 
 -- One value of each kind.
 
-word_said : (v : Option Value) → IsTrue (slot_fits (positional (kinds.Word [])) v) → some values.Word ≡ v
+word_said : (v : Option Value) → IsTrue (slot_fits (positional_slot (kinds.Word [])) v) → some values.Word ≡ v
 word_said (Some values.Word) h = refl
 word_said _ h = absurd cc
 
-class_said : (v : Option Value) → IsTrue (slot_fits (positional kinds.Class) v) → some (values.Class (unwrap_or (class_in v) classes.Enq)) ≡ v
+class_said : (v : Option Value) → IsTrue (slot_fits (positional_slot kinds.Class) v) → some (values.Class (unwrap_or (class_in v) classes.Enq)) ≡ v
 class_said (Some (values.Class class)) h = refl
 class_said _ h = absurd cc
 
-pub flag_said : (v : Option Value) → IsTrue (slot_fits (positional kinds.YesNo) v) → some (values.Flag (unwrap_or (flag_in v) false)) ≡ v
+pub flag_said : (v : Option Value) → IsTrue (slot_fits (positional_slot kinds.YesNo) v) → some (values.Flag (unwrap_or (flag_in v) false)) ≡ v
 flag_said (Some (values.Flag flag)) h = refl
 flag_said _ h = absurd cc
 
-scope_said : (v : Option Value) → IsTrue (slot_fits (positional kinds.Scope) v) → some (values.Flag (unwrap_or (flag_in v) false)) ≡ v
+scope_said : (v : Option Value) → IsTrue (slot_fits (positional_slot kinds.Scope) v) → some (values.Flag (unwrap_or (flag_in v) false)) ≡ v
 scope_said (Some (values.Flag flag)) h = refl
 scope_said _ h = absurd cc
 
-pub number_said : (least most : ℕ) (v : Option Value) → IsTrue (slot_fits (positional (kinds.Number least most)) v) → some (values.Number (unwrap_or (number_in v) 0)) ≡ v
+pub number_said : (least most : ℕ) (v : Option Value) → IsTrue (slot_fits (positional_slot (kinds.Number least most)) v) → some (values.Number (unwrap_or (number_in v) 0)) ≡ v
 number_said least most (Some (values.Number n)) h = refl
 number_said least most _ h = absurd cc
 
-pub number_least : (least most : ℕ) (v : Option Value) → IsTrue (slot_fits (positional (kinds.Number least most)) v) → IsTrue (nat_le least (unwrap_or (number_in v) 0))
+pub number_least : (least most : ℕ) (v : Option Value) → IsTrue (slot_fits (positional_slot (kinds.Number least most)) v) → IsTrue (nat_le least (unwrap_or (number_in v) 0))
 number_least least most (Some (values.Number n)) h = (and_parts (nat_le least n) (nat_le n most) h).0
 number_least least most _ h = absurd cc
 
-pub number_most : (least most : ℕ) (v : Option Value) → IsTrue (slot_fits (positional (kinds.Number least most)) v) → IsTrue (nat_le (unwrap_or (number_in v) 0) most)
+pub number_most : (least most : ℕ) (v : Option Value) → IsTrue (slot_fits (positional_slot (kinds.Number least most)) v) → IsTrue (nat_le (unwrap_or (number_in v) 0) most)
 number_most least most (Some (values.Number n)) h = (and_parts (nat_le least n) (nat_le n most) h).1
 number_most least most _ h = absurd cc
 
 narrowed : (n : ℕ) → n < 256 → narrow n ≡ n
 narrowed n h = rw (lt-ltb n 256 h) refl
 
-byte_said : (v : Option Value) → IsTrue (slot_fits (positional (kinds.Number 0 255)) v) → some (values.Number (narrow (unwrap_or (number_in v) 0))) ≡ v
+byte_said : (v : Option Value) → IsTrue (slot_fits (positional_slot (kinds.Number 0 255)) v) → some (values.Number (narrow (unwrap_or (number_in v) 0))) ≡ v
 byte_said (Some (values.Number n)) h =
     let most : n ≤ 255 = leb-true n 255 (and_parts (nat_le 0 n) (nat_le n 255) h).1 in
     ap (λ (m : ℕ). some (values.Number m)) (narrowed n (omega arith))
 byte_said _ h = absurd cc
 
-byte_most : (v : Option Value) → IsTrue (slot_fits (positional (kinds.Number 0 255)) v) → IsTrue (nat_le (narrow (unwrap_or (number_in v) 0)) 255)
+byte_most : (v : Option Value) → IsTrue (slot_fits (positional_slot (kinds.Number 0 255)) v) → IsTrue (nat_le (narrow (unwrap_or (number_in v) 0)) 255)
 byte_most (Some (values.Number n)) h =
     let most : n ≤ 255 = leb-true n 255 (and_parts (nat_le 0 n) (nat_le n 255) h).1 in
     rw (narrowed n (omega arith)) (and_parts (nat_le 0 n) (nat_le n 255) h).1
 byte_most _ h = absurd cc
 
-code_said : (v : Option Value) → IsTrue (slot_fits (positional kinds.Code) v) → some (values.Code (unwrap_or (code_in v) (Sys 0))) ≡ v
+code_said : (v : Option Value) → IsTrue (slot_fits (positional_slot kinds.Code) v) → some (values.Code (unwrap_or (code_in v) (Sys 0))) ≡ v
 code_said (Some (values.Code code)) h = refl
 code_said _ h = absurd cc
 
-code_there : (v : Option Value) → IsTrue (slot_fits (positional kinds.Code) v) → IsTrue (is_code (unwrap_or (code_in v) (Sys 0)))
+code_there : (v : Option Value) → IsTrue (slot_fits (positional_slot kinds.Code) v) → IsTrue (is_code (unwrap_or (code_in v) (Sys 0)))
 code_there (Some (values.Code (Sys n))) h = h
 code_there (Some (values.Code (User n))) h = h
 code_there _ h = absurd cc
 
-abend_said : (v : Option Value) → IsTrue (slot_fits (positional kinds.AbendCode) v) → some (values.Code (unwrap_or (code_in v) (Sys 0))) ≡ v
+abend_said : (v : Option Value) → IsTrue (slot_fits (positional_slot kinds.AbendCode) v) → some (values.Code (unwrap_or (code_in v) (Sys 0))) ≡ v
 abend_said (Some (values.Code code)) h = refl
 abend_said _ h = absurd cc
 
@@ -123,17 +123,17 @@ not_zero n h =
     let other = eqb-false n 0 (not-true (eqb n 0) parts.1) in
     and_from (nat_le 1 n) (nat_le n 4095) (le-leb 1 n (omega (arith, other))) parts.0
 
-abend_there : (v : Option Value) → IsTrue (slot_fits (positional kinds.AbendCode) v) → IsTrue (is_abend_code (unwrap_or (code_in v) (Sys 0)))
+abend_there : (v : Option Value) → IsTrue (slot_fits (positional_slot kinds.AbendCode) v) → IsTrue (is_abend_code (unwrap_or (code_in v) (Sys 0)))
 abend_there (Some (values.Code (Sys n))) h = not_zero n h
 abend_there (Some (values.Code (User n))) h = (and_parts (nat_le n 4095) true h).0
 abend_there _ h = absurd cc
 
-reason_said : (v : Option Value) → IsTrue (slot_fits (optional [] kinds.Reason) v) → option_map values.Reason (reason_in v) ≡ v
+reason_said : (v : Option Value) → IsTrue (slot_fits (optional_slot [] kinds.Reason) v) → option_map values.Reason (reason_in v) ≡ v
 reason_said None h = refl
 reason_said (Some (values.Reason n)) h = refl
 reason_said _ h = absurd cc
 
-reason_there : (v : Option Value) → IsTrue (slot_fits (optional [] kinds.Reason) v) → IsTrue (is_reason (reason_in v))
+reason_there : (v : Option Value) → IsTrue (slot_fits (optional_slot [] kinds.Reason) v) → IsTrue (is_reason (reason_in v))
 reason_there None h = refl
 reason_there (Some (values.Reason n)) h = let most : n ≤ 4294967295 = leb-true n 4294967295 h in lt-ltb n 4294967296 (omega arith)
 reason_there _ h = absurd cc
@@ -146,38 +146,38 @@ small n false true c e f g h = let is = eqb-true n 4 f in omega (arith, is)
 small n false false true e f g h = let is = eqb-true n 16 g in omega (arith, is)
 small n false false false e f g h = absurd cc
 
-rc_said : (v : Option Value) → IsTrue (slot_fits (optional [] kinds.ReturnCode) v) → option_map values.Number (option_map narrow (number_in v)) ≡ v
+rc_said : (v : Option Value) → IsTrue (slot_fits (optional_slot [] kinds.ReturnCode) v) → option_map values.Number (option_map narrow (number_in v)) ≡ v
 rc_said None h = refl
 rc_said (Some (values.Number n)) h = ap (λ (m : ℕ). Some (values.Number m)) (narrowed n (small n (eqb n 0) (eqb n 4) (eqb n 16) refl refl refl h))
 rc_said _ h = absurd cc
 
-rc_there : (v : Option Value) → IsTrue (slot_fits (optional [] kinds.ReturnCode) v) → IsTrue (is_setrp_rc (option_map narrow (number_in v)))
+rc_there : (v : Option Value) → IsTrue (slot_fits (optional_slot [] kinds.ReturnCode) v) → IsTrue (is_setrp_rc (option_map narrow (number_in v)))
 rc_there None h = refl
 rc_there (Some (values.Number n)) h = rw (narrowed n (small n (eqb n 0) (eqb n 4) (eqb n 16) refl refl refl h)) h
 rc_there _ h = absurd cc
 
-flag_or_none_said : (v : Option Value) → IsTrue (slot_fits (optional [] kinds.YesNo) v) → option_map values.Flag (flag_in v) ≡ v
+flag_or_none_said : (v : Option Value) → IsTrue (slot_fits (optional_slot [] kinds.YesNo) v) → option_map values.Flag (flag_in v) ≡ v
 flag_or_none_said None h = refl
 flag_or_none_said (Some (values.Flag flag)) h = refl
 flag_or_none_said _ h = absurd cc
 
-three_said : (v : Option Value) → IsTrue (slot_fits (optional [] kinds.YesNoIgnore) v) → option_map values.Three (three_in v) ≡ v
+three_said : (v : Option Value) → IsTrue (slot_fits (optional_slot [] kinds.YesNoIgnore) v) → option_map values.Three (three_in v) ≡ v
 three_said None h = refl
 three_said (Some (values.Three three)) h = refl
 three_said _ h = absurd cc
 
-setrp_code_said : (v : Option Value) → IsTrue (slot_fits (optional [] kinds.AbendCode) v) → option_map values.Code (code_in v) ≡ v
+setrp_code_said : (v : Option Value) → IsTrue (slot_fits (optional_slot [] kinds.AbendCode) v) → option_map values.Code (code_in v) ≡ v
 setrp_code_said None h = refl
 setrp_code_said (Some (values.Code code)) h = refl
 setrp_code_said _ h = absurd cc
 
-setrp_code_there : (v : Option Value) → IsTrue (slot_fits (optional [] kinds.AbendCode) v) → IsTrue (is_setrp_code (code_in v))
+setrp_code_there : (v : Option Value) → IsTrue (slot_fits (optional_slot [] kinds.AbendCode) v) → IsTrue (is_setrp_code (code_in v))
 setrp_code_there None h = refl
 setrp_code_there (Some (values.Code (Sys n))) h = not_zero n h
 setrp_code_there (Some (values.Code (User n))) h = (and_parts (nat_le n 4095) true h).0
 setrp_code_there _ h = absurd cc
 
-retry_said : (v : Option Value) → IsTrue (slot_fits (optional [] kinds.Name) v) → option_map values.Name (name_in v) ≡ v
+retry_said : (v : Option Value) → IsTrue (slot_fits (optional_slot [] kinds.Name) v) → option_map values.Name (name_in v) ≡ v
 retry_said None h = refl
 retry_said (Some (values.Name name)) h = refl
 retry_said _ h = absurd cc
@@ -198,42 +198,42 @@ any_of_eight false false false false false false false true i = refl
 any_of_eight false false false false false false false false i = absurd cc
 
 module _ (e : SeenView) (d : DeckView) (places : Places e d) (own : List (List ℕ)) where
-  pub program_said : (v : Option Value) → IsTrue (slot_fits (positional kinds.Name) v) → finds_value e own AProgram v ≡ true → program_name d (unwrap_or (named_in e.programs v) 0) ≡ v
+  pub program_said : (v : Option Value) → IsTrue (slot_fits (positional_slot kinds.Name) v) → finds_value e own AProgram v ≡ true → program_name d (unwrap_or (named_number_in e.programs v) 0) ≡ v
   program_said (Some (values.Name name)) h f = places.program_said name f
   program_said _ h f = absurd cc
 
-  pub program_there : (v : Option Value) → IsTrue (slot_fits (positional kinds.Name) v) → finds_value e own AProgram v ≡ true → IsTrue (is_program d (unwrap_or (named_in e.programs v) 0))
+  pub program_there : (v : Option Value) → IsTrue (slot_fits (positional_slot kinds.Name) v) → finds_value e own AProgram v ≡ true → IsTrue (is_program d (unwrap_or (named_number_in e.programs v) 0))
   program_there (Some (values.Name name)) h f = places.program_there name f
   program_there _ h f = absurd cc
 
-  pub task_said : (v : Option Value) → IsTrue (slot_fits (positional kinds.Name) v) → finds_value e own ATask v ≡ true → unit_name d (unwrap_or (named_in e.units v) 0) ≡ v
+  pub task_said : (v : Option Value) → IsTrue (slot_fits (positional_slot kinds.Name) v) → finds_value e own ATask v ≡ true → unit_name d (unwrap_or (named_number_in e.units v) 0) ≡ v
   task_said (Some (values.Name name)) h f = places.task_said name f
   task_said _ h f = absurd cc
 
-  pub task_there : (v : Option Value) → IsTrue (slot_fits (positional kinds.Name) v) → finds_value e own ATask v ≡ true → IsTrue (is_task_in d (unwrap_or (named_in e.units v) 0))
+  pub task_there : (v : Option Value) → IsTrue (slot_fits (positional_slot kinds.Name) v) → finds_value e own ATask v ≡ true → IsTrue (is_task_in d (unwrap_or (named_number_in e.units v) 0))
   task_there (Some (values.Name name)) h f = places.task_there name f
   task_there _ h f = absurd cc
 
-  srb_said : (v : Option Value) → IsTrue (slot_fits (positional kinds.Name) v) → finds_value e own AnSrb v ≡ true → unit_name d (unwrap_or (named_in e.units v) 0) ≡ v
+  srb_said : (v : Option Value) → IsTrue (slot_fits (positional_slot kinds.Name) v) → finds_value e own AnSrb v ≡ true → unit_name d (unwrap_or (named_number_in e.units v) 0) ≡ v
   srb_said (Some (values.Name name)) h f = places.srb_said name f
   srb_said _ h f = absurd cc
 
-  srb_there : (v : Option Value) → IsTrue (slot_fits (positional kinds.Name) v) → finds_value e own AnSrb v ≡ true → IsTrue (is_srb_in d (unwrap_or (named_in e.units v) 0))
+  srb_there : (v : Option Value) → IsTrue (slot_fits (positional_slot kinds.Name) v) → finds_value e own AnSrb v ≡ true → IsTrue (is_srb_in d (unwrap_or (named_number_in e.units v) 0))
   srb_there (Some (values.Name name)) h f = places.srb_there name f
   srb_there _ h f = absurd cc
 
-  label_said : (v : Option Value) → IsTrue (slot_fits (positional kinds.Name) v) → some (values.Name (unwrap_or (name_in v) no_name)) ≡ v
+  label_said : (v : Option Value) → IsTrue (slot_fits (positional_slot kinds.Name) v) → some (values.Name (unwrap_or (name_in v) no_name)) ≡ v
   label_said (Some (values.Name name)) h = refl
   label_said _ h = absurd cc
 
   abbrev pub Holds : List Line → Type 0
   Holds lines = (name : List ℕ) → has_name own name ≡ true → IsTrue (has_label name lines)
 
-  label_there : (lines : List Line) (v : Option Value) → IsTrue (slot_fits (positional kinds.Name) v) → finds_value e own OwnLabel v ≡ true → Holds lines → IsTrue (is_own_label lines (unwrap_or (name_in v) no_name))
+  label_there : (lines : List Line) (v : Option Value) → IsTrue (slot_fits (positional_slot kinds.Name) v) → finds_value e own OwnLabel v ≡ true → Holds lines → IsTrue (is_own_label lines (unwrap_or (name_in v) no_name))
   label_there lines (Some (values.Name name)) h f there = and_from (is_padded_name name) (has_label name lines) h (there name f)
   label_there lines _ h f there = absurd cc
 
-  retry_there : (v : Option Value) → IsTrue (slot_fits (optional [] kinds.Name) v) → finds_value e own AnyLabel v ≡ true → IsTrue (is_retry_label d (name_in v))
+  retry_there : (v : Option Value) → IsTrue (slot_fits (optional_slot [] kinds.Name) v) → finds_value e own AnyLabel v ≡ true → IsTrue (is_retry_label d (name_in v))
   retry_there None h f = refl
   retry_there (Some (values.Name name)) h f = and_from (is_padded_name name) (has_label_anywhere d name) h (places.labelled name f)
   retry_there _ h f = absurd cc

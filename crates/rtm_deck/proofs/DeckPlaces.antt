@@ -7,12 +7,12 @@ use Rattle.std.proofs.lemmas.List.{length-map}
 use Rattle.std.proofs.lemmas.Bool.{and_parts, lt-ltb}
 use Rattle.std.proofs.lemmas.Option.{slice_get-map}
 use Rattle.std.proofs.lemmas.Slice.Eq.{bytes_eq-Decides}
-use Rattle.rtm_operands.specs.declared.value.Value.TheVariants as values
-use Rattle.rtm_items.specs.declared.deck.Unit.{Unit as UnitCard}
-use Rattle.rtm_items.specs.Reading.{is_task_card}
-use Rattle.rtm_items.specs.View.{ProgramView, DeckView}
-use Rattle.rtm_items.specs.Items.{program_name, unit_name}
-use Rattle.rtm_items.specs.WellFormed.{are_distinct, has_label_anywhere}
+use Rattle.rtm_deck_operands.specs.declared.value.Value.TheVariants as values
+use Rattle.rtm_deck_items.specs.declared.deck.Unit.{Unit as UnitCard}
+use Rattle.rtm_deck_items.specs.Reading.{is_task_card}
+use Rattle.rtm_deck_items.specs.View.{ProgramView, DeckView}
+use Rattle.rtm_deck_items.specs.Items.{program_name, unit_name}
+use Rattle.rtm_deck_items.specs.WellFormed.{are_distinct, has_label_anywhere}
 use Rattle.rtm_deck.specs.View.{SeenView}
 use Rattle.rtm_deck.specs.Seen.{has_name}
 use Rattle.rtm_deck.specs.Operations.{index_in}

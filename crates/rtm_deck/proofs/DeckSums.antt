@@ -7,13 +7,13 @@ use Rattle.std.proofs.lemmas.Bool.{and_parts, and_from, leb-false}
 use Rattle.std.proofs.lemmas.List.Folds.{list_any-append}
 use Rattle.std.proofs.lemmas.Slice.Eq.{bytes_eq-Decides}
 use Rattle.rtm_cards.specs.Cards.{CardText}
-use Rattle.rtm_items.specs.declared.deck.Line.{Line as LineCard}
-use Rattle.rtm_items.specs.declared.deck.Unit.{Unit as UnitCard}
-use Rattle.rtm_items.specs.declared.deck.Command.{Command as CommandCard}
-use Rattle.rtm_items.specs.declared.deck.UnitKind.TheVariants as kinds
-use Rattle.rtm_items.specs.View.{ProgramView}
-use Rattle.rtm_items.specs.Reading.{is_task_card}
-use Rattle.rtm_items.specs.WellFormed.{are_distinct}
+use Rattle.rtm_deck_items.specs.declared.deck.Line.{Line as LineCard}
+use Rattle.rtm_deck_items.specs.declared.deck.Unit.{Unit as UnitCard}
+use Rattle.rtm_deck_items.specs.declared.deck.Command.{Command as CommandCard}
+use Rattle.rtm_deck_items.specs.declared.deck.UnitKind.TheVariants as kinds
+use Rattle.rtm_deck_items.specs.View.{ProgramView}
+use Rattle.rtm_deck_items.specs.Reading.{is_task_card}
+use Rattle.rtm_deck_items.specs.WellFormed.{are_distinct}
 use Rattle.rtm_deck.specs.declared.role.Role.{Role}
 use Rattle.rtm_deck.specs.declared.role.Role.TheVariants.{Region, Program, ProgramEnd, Task, Srb, Commands, Command, End, Line}
 use Rattle.rtm_deck.specs.View.{ReadView, SeenView}

@@ -6,22 +6,22 @@ use Rattle.std.specs.List.{list_all, list_any}
 use Rattle.std.proofs.lemmas.Bool.{eqb-true}
 use Rattle.std.proofs.lemmas.Slice.Eq.{bytes_eq-Decides}
 use Rattle.rtm_cards.specs.Cards.{CardText}
-use Rattle.rtm_operands.specs.declared.value.Value.{Value}
-use Rattle.rtm_operands.specs.declared.slot.Slot.{Slot}
-use Rattle.rtm_operands.specs.Reading.{name_in, read_slots}
-use Rattle.rtm_operands.proofs.SlotReading.{read_slots-Some}
-use Rattle.rtm_items.specs.declared.why.Why.{Why}
-use Rattle.rtm_items.specs.declared.why.Why.TheVariants.{BadCard, WrongPlace, BadOperand, DuplicateName, OverLimit, NoJobStep}
-use Rattle.rtm_items.specs.declared.form.CardForm.{CardForm}
-use Rattle.rtm_items.specs.Forms.{operation_of, slots_of, needs_some, all_forms, form_named}
-use Rattle.rtm_items.specs.Spelling.{SpellsOperands, SpellsForm}
-use Rattle.rtm_spelling.proofs.Forms.{for_each_test}
+use Rattle.rtm_deck_operands.specs.declared.value.Value.{Value}
+use Rattle.rtm_deck_operands.specs.declared.slot.Slot.{Slot}
+use Rattle.rtm_deck_operands.specs.Reading.{name_in, read_slots}
+use Rattle.rtm_deck_operands.proofs.SlotReading.{read_slots-Some}
+use Rattle.rtm_deck_items.specs.declared.why.Why.{Why}
+use Rattle.rtm_deck_items.specs.declared.why.Why.TheVariants.{BadCard, WrongPlace, BadOperand, DuplicateName, OverLimit, NoJobStep}
+use Rattle.rtm_deck_items.specs.declared.form.CardForm.{CardForm}
+use Rattle.rtm_deck_items.specs.Forms.{operation_of, slots_of, needs_some, all_forms, form_named}
+use Rattle.rtm_deck_items.specs.Spelling.{SpellsOperands, SpellsForm}
+use Rattle.rtm_deck_spelling.proofs.Forms.{for_each_test}
 use Rattle.rtm_deck.specs.declared.role.Role.{Role}
 use Rattle.rtm_deck.specs.declared.role.Role.TheVariants.{Region, Program, ProgramEnd, Task, Srb, Commands, Command, End, Line}
 use Rattle.rtm_deck.specs.View.{ReadView, SeenView, ScanView}
 use Rattle.rtm_deck.specs.Roles.{role_of, is_misnamed_role}
-use Rattle.rtm_deck.specs.Seen.{after, is_misplaced_role, is_doubled_name, is_beyond, lacks_task_role, broken_rule, SaidView, enough, read_by, said, said_as, said_by, read_with, read_known, read_card}
-use Rattle.rtm_deck.specs.Reader.{scanned, scan_on, scan}
+use Rattle.rtm_deck.specs.Seen.{after, is_misplaced_role, is_doubled_name, is_beyond, lacks_task_role, broken_rule, SaidView, values_if_enough, read_by, reading_of, reading_as, reading_by, read_with, read_known, read_card}
+use Rattle.rtm_deck.specs.Reader.{scan_of, scan_on, scan}
 
 -- The card is read so, and breaks no rule behind what was seen.
 pub record Step (s : SeenView) (c : CardText) (r : ReadView) : Type 0 where
@@ -43,7 +43,7 @@ Walk s (c ∷ cs) (r ∷ rs) e = Step s c r × Walk (after s (role_of r.form) r.
 
 -- What the operands say.
 
-enough_is : (wanted : Bool) (vs ws : List (Option Value)) → enough wanted vs ≡ Some ws → (vs ≡ ws) × (IsTrue wanted → IsTrue (list_any is_some vs))
+enough_is : (wanted : Bool) (vs ws : List (Option Value)) → values_if_enough wanted vs ≡ Some ws → (vs ≡ ws) × (IsTrue wanted → IsTrue (list_any is_some vs))
 enough_is true vs ws e = go (list_any is_some vs) refl e
   where
     go : (b : Bool) → list_any is_some vs ≡ b → (if not b then None else Some vs) ≡ Some ws → (vs ≡ ws) × (true ≡ true → IsTrue (list_any is_some vs))
@@ -58,7 +58,7 @@ read_spells [] wanted operands vs e =
     (sym r.0, λ w. subst (λ (x : List (Option Value)). IsTrue (list_any is_some x)) r.0 (r.1 w))
 read_spells (slot ∷ slots) wanted operands vs e = go (read_slots (slot ∷ slots) operands) refl e
   where
-    go : (o : Option (List (Option Value))) → read_slots (slot ∷ slots) operands ≡ o → option_and_then (enough wanted) o ≡ Some vs
+    go : (o : Option (List (Option Value))) → read_slots (slot ∷ slots) operands ≡ o → option_and_then (values_if_enough wanted) o ≡ Some vs
         → SpellsOperands (slot ∷ slots) operands vs × (IsTrue wanted → IsTrue (list_any is_some vs))
     go None t e = absurd cc
     go (Some ws) t e =
@@ -70,27 +70,27 @@ pub record Spelled (called : List ℕ) (operands : List (List ℕ)) (s : SaidVie
   pub op : called ≡ operation_of s.form
   pub spells : SpellsForm s.form operands s.values
 
-said_is : (op : List ℕ) (operands : List (List ℕ)) (form : CardForm) (o : Option (List (Option Value))) (s : SaidView) → op ≡ operation_of form → read_by (slots_of form) (needs_some form) operands ≡ o → said form o ≡ Some s → Spelled op operands s
+said_is : (op : List ℕ) (operands : List (List ℕ)) (form : CardForm) (o : Option (List (Option Value))) (s : SaidView) → op ≡ operation_of form → read_by (slots_of form) (needs_some form) operands ≡ o → reading_of form o ≡ Some s → Spelled op operands s
 said_is op operands form None s same t e = absurd cc
 said_is op operands form (Some vs) s same t e =
     let r = read_spells (slots_of form) (needs_some form) operands vs t in
     let is : record { form = form; values = vs } ≡ s = cc in
     subst (Spelled op operands) is (record { op = same; spells = record { spelled = r.0; some = r.1 } })
 
-said_as-spelled : (op : List ℕ) (operands : List (List ℕ)) (form : CardForm) (s : SaidView) → said_as op operands form ≡ Some s → Spelled op operands s
-said_as-spelled op operands form s e = go (bytes_eq (operation_of form) op) refl e
+reading_as-spelled : (op : List ℕ) (operands : List (List ℕ)) (form : CardForm) (s : SaidView) → reading_as op operands form ≡ Some s → Spelled op operands s
+reading_as-spelled op operands form s e = go (bytes_eq (operation_of form) op) refl e
   where
-    go : (b : Bool) → bytes_eq (operation_of form) op ≡ b → (if b then said form (read_by (slots_of form) (needs_some form) operands) else None) ≡ Some s → Spelled op operands s
+    go : (b : Bool) → bytes_eq (operation_of form) op ≡ b → (if b then reading_of form (read_by (slots_of form) (needs_some form) operands) else None) ≡ Some s → Spelled op operands s
     go true t e = said_is op operands form (read_by (slots_of form) (needs_some form) operands) s (sym ((bytes_eq-Decides (operation_of form) op).0 t)) refl e
     go false t e = absurd cc
 
-said_by-spelled : (op : List ℕ) (operands : List (List ℕ)) (forms : List CardForm) (s : SaidView) → said_by op operands forms ≡ Some s → Spelled op operands s
-said_by-spelled op operands [] s e = absurd cc
-said_by-spelled op operands (form ∷ forms) s e = go (said_as op operands form) refl e (said_by-spelled op operands forms s)
+reading_by-spelled : (op : List ℕ) (operands : List (List ℕ)) (forms : List CardForm) (s : SaidView) → reading_by op operands forms ≡ Some s → Spelled op operands s
+reading_by-spelled op operands [] s e = absurd cc
+reading_by-spelled op operands (form ∷ forms) s e = go (reading_as op operands form) refl e (reading_by-spelled op operands forms s)
   where
-    go : (o : Option SaidView) → said_as op operands form ≡ o → option_or o (said_by op operands forms) ≡ Some s → (said_by op operands forms ≡ Some s → Spelled op operands s) → Spelled op operands s
+    go : (o : Option SaidView) → reading_as op operands form ≡ o → option_or o (reading_by op operands forms) ≡ Some s → (reading_by op operands forms ≡ Some s → Spelled op operands s) → Spelled op operands s
     go None t e more = more e
-    go (Some x) t e more = said_as-spelled op operands form s (t ∙ e)
+    go (Some x) t e more = reading_as-spelled op operands form s (t ∙ e)
 
 -- Forms of one operation have one role.
 
@@ -161,12 +161,12 @@ unbroken s role name true false false false true e ha hb hc hd he h = absurd cc
 unbroken s role name true false false false false true ha hb hc hd he h = absurd cc
 unbroken s role name true false false false false false ha hb hc hd he h = record { named = ha; placed = hb; single = hc; within = hd; tasked = he }
 
-read_with-step : (s : SeenView) (c : CardText) (form : CardForm) (said : Option SaidView) (broken : Option Why) (r : ReadView) → operation_of form ≡ c.op → said_by c.op c.operands all_forms ≡ said
+read_with-step : (s : SeenView) (c : CardText) (form : CardForm) (said : Option SaidView) (broken : Option Why) (r : ReadView) → operation_of form ≡ c.op → reading_by c.op c.operands all_forms ≡ said
     → broken_rule s (role_of form) (name_in c.name) (is_some said) ≡ broken → read_with c.number (name_in c.name) said broken ≡ Ok r → Step s c r
 read_with-step s c form said (Some why) r o t b e = absurd cc
 read_with-step s c form None None r o t b e = absurd cc
 read_with-step s c form (Some x) None r o t b e =
-    let spelled = said_by-spelled c.op c.operands all_forms x t in
+    let spelled = reading_by-spelled c.op c.operands all_forms x t in
     let u = unbroken s (role_of form) (name_in c.name) true _ _ _ _ _ refl refl refl refl refl b in
     let role : role_of form ≡ role_of x.form = one_role form x.form (o ∙ spelled.op) in
     let v : Unbroken s (role_of x.form) (name_in c.name) = subst (λ (ρ : Role). Unbroken s ρ (name_in c.name)) role u in
@@ -179,7 +179,7 @@ read_card-step s c r e = go (form_named c.op) refl e
   where
     go : (o : Option CardForm) → form_named c.op ≡ o → read_known s c o ≡ Ok r → Step s c r
     go None t e = absurd cc
-    go (Some form) t e = read_with-step s c form (said_by c.op c.operands all_forms) _ r (found_op c.op all_forms form t) refl refl e
+    go (Some form) t e = read_with-step s c form (reading_by c.op c.operands all_forms) _ r (found_op c.op all_forms form t) refl refl e
 
 -- what a scan says: the reads, which are a walk
 pub record Walked (reads : List ReadView) (s : SeenView) (cards : List CardText) (t : ScanView) : Type 0 where
@@ -193,7 +193,7 @@ append_none (x ∷ xs) = ap (λ (ys : List ReadView). x ∷ ys) (append_none xs)
 
 pub walked : (reads : List ReadView) (s : SeenView) (cards : List CardText) (t : ScanView) → scan reads s cards ≡ Ok t → Walked reads s cards t
 walked reads s [] t e =
-    let is : scanned reads s ≡ t = cc in
+    let is : scan_of reads s ≡ t = cc in
     record { others = []; all = ap (λ (x : ScanView). x.reads) (sym is) ∙ append_none reads; walk = ap (λ (x : ScanView). x.seen) (sym is) }
 walked reads s (c ∷ cs) t e = go (read_card s c) refl e (λ (r : ReadView). walked (reads ++ r ∷ []) (after s (role_of r.form) r.name) cs t)
   where

@@ -6,8 +6,8 @@ use Rattle.rtm_cards.specs.declared.fault.CutWhy.{CutWhy}
 use Rattle.rtm_cards.specs.Rules.{fault_of, is_ignored}
 use Rattle.rtm_cards.specs.Cards.{CardText, card_of, cards_from}
 use Rattle.rtm_cards.proofs.CardForm.{card_form}
-use Rattle.rtm_items.specs.declared.why.Why.{Why}
-use Rattle.rtm_items.specs.Faults.{is_in_program, HasFault, HasNone, with_line, FormFault, NoFormFault, BreaksFirst, BreaksNone, rules}
+use Rattle.rtm_deck_items.specs.declared.why.Why.{Why}
+use Rattle.rtm_deck_items.specs.Faults.{is_in_program, HasFault, HasNone, with_line, FormFault, NoFormFault, BreaksFirst, BreaksNone, rules}
 use Rattle.rtm_deck.specs.View.{SeenView, ReadView, ScanView, Refusal}
 use Rattle.rtm_deck.specs.Roles.{role_of, is_inside_role}
 use Rattle.rtm_deck.specs.Seen.{after, read_card}

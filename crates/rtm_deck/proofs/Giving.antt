@@ -4,9 +4,9 @@ use Rattle.std.specs.Prelude.{ℕ, Option, Result, Ok, Err}
 use Rattle.rtm_cards.specs.declared.fault.CutFault.{CutFault}
 use Rattle.rtm_deck.specs.declared.fault.DeckFault.{DeckFault}
 use Rattle.rtm_deck.specs.declared.fault.DeckFault.TheVariants.{Memory, Refused}
-use Rattle.rtm_items.specs.View.{DeckView}
+use Rattle.rtm_deck_items.specs.View.{DeckView}
 use Rattle.rtm_deck.specs.View.{ScanView, Refusal}
-use Rattle.rtm_deck.specs.Reader.{Gives, Finds, judged, named}
+use Rattle.rtm_deck.specs.Reader.{Gives, Finds, deck_or_fault, deck_if_named}
 
 -- want of memory is free
 pub gives-memory : {A B : Type 0} (P : A → B → Type 0) (r : Result A DeckFault) (e : DeckFault) (y : Result B Refusal) → r ≡ Err e → e ≡ Memory → Gives P r y
@@ -18,13 +18,13 @@ gives-value x (Ok z) h = ap Ok (sym h)
 gives-value x (Err r) h = absurd h
 
 -- a fault of form is what is judged
-pub gives-judged : {A B : Type 0} (P : A → ScanView → Type 0) (Q : B → DeckView → Type 0) (e : DeckFault) (y : Result ScanView Refusal) (lines : ℕ) (fault : Option CutFault) →
-    Gives P (Err e) y → Gives Q (Err e) (judged lines fault y)
-gives-judged P Q Memory y lines fault h = tt
-gives-judged P Q (Refused card why) y lines fault h = ap (judged lines fault) h
+pub gives-deck_or_fault : {A B : Type 0} (P : A → ScanView → Type 0) (Q : B → DeckView → Type 0) (e : DeckFault) (y : Result ScanView Refusal) (lines : ℕ) (fault : Option CutFault) →
+    Gives P (Err e) y → Gives Q (Err e) (deck_or_fault lines fault y)
+gives-deck_or_fault P Q Memory y lines fault h = tt
+gives-deck_or_fault P Q (Refused card why) y lines fault h = ap (deck_or_fault lines fault) h
 
 -- a name that isn't there is what is named
-pub gives-named : (A : Type 0) {B : Type 0} (Q : B → DeckView → Type 0) (e : DeckFault) (t : ScanView) (y : Option Refusal) →
-    Finds {A = A} (Err e) y → Gives Q (Err e) (named t y)
-gives-named A Q Memory t y h = tt
-gives-named A Q (Refused card why) t y h = ap (named t) h
+pub gives-deck_if_named : (A : Type 0) {B : Type 0} (Q : B → DeckView → Type 0) (e : DeckFault) (t : ScanView) (y : Option Refusal) →
+    Finds {A = A} (Err e) y → Gives Q (Err e) (deck_if_named t y)
+gives-deck_if_named A Q Memory t y h = tt
+gives-deck_if_named A Q (Refused card why) t y h = ap (deck_if_named t) h

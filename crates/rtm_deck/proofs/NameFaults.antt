@@ -4,22 +4,22 @@ use Rattle.std.specs.Prelude.{codes, IsTrue, if◌then◌else◌}
 use Rattle.std.specs.List.{list_any, list_all, AllByRecursion}
 use Rattle.std.proofs.lemmas.Bool.{and_parts}
 use Rattle.rtm_cards.specs.Cards.{CardText}
-use Rattle.rtm_operands.specs.declared.value.Value.{Value}
-use Rattle.rtm_operands.specs.declared.value.Value.TheVariants as values
-use Rattle.rtm_operands.specs.declared.slot.Kind.{Kind}
-use Rattle.rtm_operands.specs.declared.slot.Kind.TheVariants as kinds
-use Rattle.rtm_operands.specs.declared.slot.Slot.{Slot}
-use Rattle.rtm_operands.specs.Name.{trimmed, is_padded_name}
-use Rattle.rtm_operands.specs.Value.{fits}
-use Rattle.rtm_operands.specs.Slot.{slots_fit, slot_fits, slot_is_well_made}
-use Rattle.rtm_operands.proofs.SlotReading.{table_parts, slots_fit-spelled}
-use Rattle.rtm_items.specs.declared.why.Why.{Why}
-use Rattle.rtm_items.specs.declared.form.CardForm.{CardForm}
-use Rattle.rtm_items.specs.declared.form.CardForm.TheVariants as forms
-use Rattle.rtm_items.specs.Forms.{slots_of}
-use Rattle.rtm_items.specs.Spelling.{SpellsOperands}
-use Rattle.rtm_items.specs.Faults.{is_called, is_named, Reference, AProgram, ATask, AnSrb, OwnLabel, AnyLabel, Nothing, references_of, is_found, is_value_found, why_of_reference, NamesUnfound, HasNameFault}
-use Rattle.rtm_spelling.proofs.Forms.{form_is_well_made, one_form, one_values}
+use Rattle.rtm_deck_operands.specs.declared.value.Value.{Value}
+use Rattle.rtm_deck_operands.specs.declared.value.Value.TheVariants as values
+use Rattle.rtm_deck_operands.specs.declared.slot.Kind.{Kind}
+use Rattle.rtm_deck_operands.specs.declared.slot.Kind.TheVariants as kinds
+use Rattle.rtm_deck_operands.specs.declared.slot.Slot.{Slot}
+use Rattle.rtm_deck_operands.specs.Name.{trimmed_text, is_padded_name}
+use Rattle.rtm_deck_operands.specs.Value.{fits}
+use Rattle.rtm_deck_operands.specs.Slot.{slots_fit, slot_fits, slot_is_well_made}
+use Rattle.rtm_deck_operands.proofs.SlotReading.{table_parts, slots_fit-spelled}
+use Rattle.rtm_deck_items.specs.declared.why.Why.{Why}
+use Rattle.rtm_deck_items.specs.declared.form.CardForm.{CardForm}
+use Rattle.rtm_deck_items.specs.declared.form.CardForm.TheVariants as forms
+use Rattle.rtm_deck_items.specs.Forms.{slots_of}
+use Rattle.rtm_deck_items.specs.Spelling.{SpellsOperands}
+use Rattle.rtm_deck_items.specs.Faults.{is_called, is_named, Reference, AProgram, ATask, AnSrb, OwnLabel, AnyLabel, Nothing, references_of, is_found, is_value_found, why_of_reference, NamesUnfound, HasNameFault}
+use Rattle.rtm_deck_spelling.proofs.Forms.{form_is_well_made, one_form, one_values}
 use Rattle.rtm_deck.specs.declared.role.Role.TheVariants as roles
 use Rattle.rtm_deck.specs.declared.reference.Reference.{Reference as ReaderReference}
 use Rattle.rtm_deck.specs.declared.reference.Reference.TheVariants as reads
@@ -126,7 +126,7 @@ same_references forms.IfPerc = refl
 
 -- what has to be known of the labels of the own program: where one is named
 abbrev pub OwnAre : List (List ℕ) → List CardText → Type 0
-OwnAre own cards = (name : List ℕ) → IsTrue (is_padded_name name) → has_name own name ≡ list_any (is_named (trimmed name)) cards
+OwnAre own cards = (name : List ℕ) → IsTrue (is_padded_name name) → has_name own name ≡ list_any (is_named (trimmed_text name)) cards
 
 abbrev KnowsOwn : List (List ℕ) → List CardText → List ReaderReference → Type 0
 KnowsOwn own cards [] = Unit {0}
@@ -183,7 +183,7 @@ pub record SeesAll (s : SeenView) (cards : List CardText) : Type 0 where
 
 -- One name is found by the reader where it is there.
 found_is : (s : SeenView) (cards own_cards : List CardText) (own : List (List ℕ)) (reference : ReaderReference) (others : List ReaderReference) (name : List ℕ) → SeesAll s cards → KnowsOwn own own_cards (reference ∷ others) → IsTrue (is_padded_name name)
-    → finds s own reference name ≡ is_found cards own_cards (as_fault reference) (trimmed name)
+    → finds s own reference name ≡ is_found cards own_cards (as_fault reference) (trimmed_text name)
 found_is s cards own_cards own reads.AProgram others name h k is = h.programs name is
 found_is s cards own_cards own reads.ATask others name h k is = h.tasks name is
 found_is s cards own_cards own reads.AnSrb others name h k is = h.srbs name is

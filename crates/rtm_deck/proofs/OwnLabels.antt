@@ -5,10 +5,10 @@ use Rattle.std.specs.List.{list_any}
 use Rattle.std.proofs.lemmas.List.Folds.{list_any-append}
 use Rattle.std.proofs.lemmas.List.Sums.{take_while-cons}
 use Rattle.rtm_cards.specs.Cards.{CardText}
-use Rattle.rtm_operands.specs.Name.{trimmed, is_padded_name}
-use Rattle.rtm_items.specs.declared.why.Why.{Why}
-use Rattle.rtm_items.specs.Faults.{is_called, is_named, is_in_program, since_program, own_program, NameFault}
-use Rattle.rtm_spelling.proofs.Behind.{closed, stays, since_start, since_more}
+use Rattle.rtm_deck_operands.specs.Name.{trimmed_text, is_padded_name}
+use Rattle.rtm_deck_items.specs.declared.why.Why.{Why}
+use Rattle.rtm_deck_items.specs.Faults.{is_called, is_named, is_in_program, since_program, own_program, NameFault}
+use Rattle.rtm_deck_spelling.proofs.Behind.{closed, stays, since_start, since_more}
 use Rattle.rtm_deck.specs.declared.role.Role.{Role}
 use Rattle.rtm_deck.specs.declared.role.Role.TheVariants.{Region, Program, ProgramEnd, Task, Srb, Commands, Command, End, Line}
 use Rattle.rtm_deck.specs.View.{SeenView, ReadView, Refusal}
@@ -46,7 +46,7 @@ inside_only End e = absurd cc
 inside_only Line e = inl refl
 
 abbrev Onto : List (List ℕ) → List ReadView → List CardText → Type 0
-Onto names rs later = (name : List ℕ) → IsTrue (is_padded_name name) → has_name (labels_onto names rs) name ≡ (has_name names name || list_any (is_named (trimmed name)) (program_rest later))
+Onto names rs later = (name : List ℕ) → IsTrue (is_padded_name name) → has_name (labels_onto names rs) name ≡ (has_name names name || list_any (is_named (trimmed_text name)) (program_rest later))
 
 onto_line : (names : List (List ℕ)) (earlier : List CardText) (c : CardText) (cs : List CardText) (r : ReadView) (rs : List ReadView) → ReadHere earlier c r → role_of r.form ≡ Line
     → Onto (with_name names r.name) rs cs → Onto names (r ∷ rs) (c ∷ cs)
@@ -54,16 +54,16 @@ onto_line names earlier c cs r rs h role more name is =
     let calls = subst (λ (x : Role). CallsAs c x) role h.calls in
     ap (λ b. has_name (if b then labels_onto (with_name names r.name) rs else names) name) (ap is_line role)
     ∙ more name is
-    ∙ ap (λ b. b || list_any (is_named (trimmed name)) (program_rest cs)) (ap (λ o. has_name (with_name names o) name) h.read.name ∙ has_with names c.name name h.field is)
-    ∙ or_assoc (has_name names name) (bytes_eq c.name (trimmed name)) (list_any (is_named (trimmed name)) (program_rest cs))
-    ∙ ap (λ l. has_name names name || list_any (is_named (trimmed name)) l) (sym (rest_more c cs calls.is_pend))
+    ∙ ap (λ b. b || list_any (is_named (trimmed_text name)) (program_rest cs)) (ap (λ o. has_name (with_name names o) name) h.read.name ∙ has_with names c.name name h.field is)
+    ∙ or_assoc (has_name names name) (bytes_eq c.name (trimmed_text name)) (list_any (is_named (trimmed_text name)) (program_rest cs))
+    ∙ ap (λ l. has_name names name || list_any (is_named (trimmed_text name)) l) (sym (rest_more c cs calls.is_pend))
 
 onto_end : (names : List (List ℕ)) (earlier : List CardText) (c : CardText) (cs : List CardText) (r : ReadView) (rs : List ReadView) → ReadHere earlier c r → role_of r.form ≡ ProgramEnd → Onto names (r ∷ rs) (c ∷ cs)
 onto_end names earlier c cs r rs h role name is =
     let calls = subst (λ (x : Role). CallsAs c x) role h.calls in
     ap (λ b. has_name (if b then labels_onto (with_name names r.name) rs else names) name) (ap is_line role)
     ∙ sym (or_false (has_name names name))
-    ∙ ap (λ l. has_name names name || list_any (is_named (trimmed name)) l) (sym (rest_ends c cs calls.is_pend))
+    ∙ ap (λ l. has_name names name || list_any (is_named (trimmed_text name)) l) (sym (rest_ends c cs calls.is_pend))
 
 -- the labels that are gathered behind PROG are those of the cards up to PEND
 onto : (later : List CardText) (rs : List ReadView) (earlier : List CardText) (names : List (List ℕ)) → ReadEach earlier later rs → is_in_program earlier ≡ true → Onto names rs later
@@ -103,7 +103,7 @@ own_step Region own earlier c cs r rs e h each o = let calls = subst (λ (x : Ro
 own_step Program own earlier c cs r rs e h each o = λ inside name is.
     let calls = subst (λ (x : Role). CallsAs c x) e h.calls in
     onto cs rs (c ∷ earlier) [] each inside name is
-    ∙ ap (λ l. list_any (is_named (trimmed name)) (l ++ program_rest cs)) (sym (since_start c earlier calls.is_prog))
+    ∙ ap (λ l. list_any (is_named (trimmed_text name)) (l ++ program_rest cs)) (sym (since_start c earlier calls.is_prog))
 own_step ProgramEnd own earlier c cs r rs e h each o = let calls = subst (λ (x : Role). CallsAs c x) e h.calls in outside own (c ∷ earlier) cs (closed c earlier calls.is_prog calls.is_pend)
 own_step Task own earlier c cs r rs e h each o = let calls = subst (λ (x : Role). CallsAs c x) e h.calls in stays_outside own c earlier cs calls.is_prog calls.is_pend (h.placed ∙ ap is_inside_role e)
 own_step Srb own earlier c cs r rs e h each o = let calls = subst (λ (x : Role). CallsAs c x) e h.calls in stays_outside own c earlier cs calls.is_prog calls.is_pend (h.placed ∙ ap is_inside_role e)
@@ -113,9 +113,9 @@ own_step End own earlier c cs r rs e h each o = let calls = subst (λ (x : Role)
 own_step Line own earlier c cs r rs e h each o = λ inside name is.
     let calls = subst (λ (x : Role). CallsAs c x) e h.calls in
     o (h.placed ∙ ap is_inside_role e) name is
-    ∙ ap (λ l. list_any (is_named (trimmed name)) (since_program earlier ++ l)) (rest_more c cs calls.is_pend)
-    ∙ any_moved (is_named (trimmed name)) c (since_program earlier) (program_rest cs)
-    ∙ ap (λ l. list_any (is_named (trimmed name)) (l ++ program_rest cs)) (sym (since_more c earlier calls.is_prog))
+    ∙ ap (λ l. list_any (is_named (trimmed_text name)) (since_program earlier ++ l)) (rest_more c cs calls.is_pend)
+    ∙ any_moved (is_named (trimmed_text name)) c (since_program earlier) (program_rest cs)
+    ∙ ap (λ l. list_any (is_named (trimmed_text name)) (l ++ program_rest cs)) (sym (since_more c earlier calls.is_prog))
 
 -- the labels of a card's own program
 own_here : (own : List (List ℕ)) (earlier : List CardText) (c : CardText) (cs : List CardText) (r : ReadView) (rs : List ReadView) → ReadHere earlier c r → Own own earlier (c ∷ cs)
@@ -124,7 +124,7 @@ own_here own earlier c cs r rs h o role name is =
     let calls = subst (λ (x : Role). CallsAs c x) role h.calls in
     ap (λ b. has_name (if b then labels_onto [] rs else own) name) (ap is_program_role role)
     ∙ o (h.placed ∙ ap is_inside_role role) name is
-    ∙ ap (λ l. list_any (is_named (trimmed name)) (since_program earlier ++ l)) (rest_more c cs calls.is_pend)
+    ∙ ap (λ l. list_any (is_named (trimmed_text name)) (since_program earlier ++ l)) (rest_more c cs calls.is_pend)
 
 named_first : (cards earlier : List CardText) (c : CardText) (cs : List CardText) (r : ReadView) (o : Option Why) (others : Option Refusal) (x : Refusal) → r.number ≡ c.number → CardNames cards (own_program earlier c cs) c o
     → ((y : Refusal) → others ≡ Some y → NameFault cards (c ∷ earlier) cs y.card y.why) → nameless_or r o others ≡ Some x → NameFault cards earlier (c ∷ cs) x.card x.why

@@ -6,33 +6,33 @@ use Rattle.std.specs.List.{list_any, AllByRecursion}
 use Rattle.std.proofs.lemmas.Slice.Eq.{bytes_eq-Decides}
 use Rattle.rtm_cards.specs.Name.{is_name_field}
 use Rattle.rtm_cards.specs.Cards.{CardText}
-use Rattle.rtm_operands.specs.declared.value.Value.{Value}
-use Rattle.rtm_operands.specs.declared.slot.Slot.{Slot}
-use Rattle.rtm_operands.specs.Slot.{SpellsSlots, well_made}
-use Rattle.rtm_operands.specs.Reading.{read_slots, name_in}
-use Rattle.rtm_operands.proofs.SlotReading.{table_parts, read_slots-Some, read_slots-spelled}
-use Rattle.rtm_items.specs.declared.why.Why.{Why}
-use Rattle.rtm_items.specs.declared.why.Why.TheVariants.{UnknownOp, BadOperand}
-use Rattle.rtm_items.specs.declared.form.CardForm.{CardForm}
-use Rattle.rtm_items.specs.declared.form.CardForm.TheVariants as forms
-use Rattle.rtm_items.specs.Forms.{all_forms, operation_of, slots_of, needs_some, form_named}
-use Rattle.rtm_items.specs.Spelling.{SpellsForm, SpellsOperands}
-use Rattle.rtm_items.specs.Faults.{HasBadOperands, BreaksRule, BreaksFirst, BreaksNone, rules}
-use Rattle.rtm_spelling.proofs.Forms.{for_each, form_is_well_made}
+use Rattle.rtm_deck_operands.specs.declared.value.Value.{Value}
+use Rattle.rtm_deck_operands.specs.declared.slot.Slot.{Slot}
+use Rattle.rtm_deck_operands.specs.Slot.{SpellsSlots, well_made}
+use Rattle.rtm_deck_operands.specs.Reading.{read_slots, name_in}
+use Rattle.rtm_deck_operands.proofs.SlotReading.{table_parts, read_slots-Some, read_slots-spelled}
+use Rattle.rtm_deck_items.specs.declared.why.Why.{Why}
+use Rattle.rtm_deck_items.specs.declared.why.Why.TheVariants.{UnknownOp, BadOperand}
+use Rattle.rtm_deck_items.specs.declared.form.CardForm.{CardForm}
+use Rattle.rtm_deck_items.specs.declared.form.CardForm.TheVariants as forms
+use Rattle.rtm_deck_items.specs.Forms.{all_forms, operation_of, slots_of, needs_some, form_named}
+use Rattle.rtm_deck_items.specs.Spelling.{SpellsForm, SpellsOperands}
+use Rattle.rtm_deck_items.specs.Faults.{HasBadOperands, BreaksRule, BreaksFirst, BreaksNone, rules}
+use Rattle.rtm_deck_spelling.proofs.Forms.{for_each, form_is_well_made}
 use Rattle.rtm_deck.specs.View.{SeenView, ReadView}
 use Rattle.rtm_deck.specs.Roles.{role_of}
-use Rattle.rtm_deck.specs.Seen.{SaidView, enough, read_by, said, said_as, said_by, broken_rule, read_with, read_known, read_card}
-use Rattle.rtm_spelling.proofs.RuleTests.{first_form, named_first}
+use Rattle.rtm_deck.specs.Seen.{SaidView, values_if_enough, read_by, reading_of, reading_as, reading_by, broken_rule, read_with, read_known, read_card}
+use Rattle.rtm_deck_spelling.proofs.RuleTests.{first_form, named_first}
 use Rattle.rtm_deck.specs.declared.role.Role.{Role}
 use Rattle.rtm_deck.specs.Roles.{is_misnamed_role}
 use Rattle.rtm_deck.specs.Seen.{is_misplaced_role, is_doubled_name}
-use Rattle.rtm_items.specs.declared.why.Why.TheVariants.{BadCard, WrongPlace, DuplicateName}
+use Rattle.rtm_deck_items.specs.declared.why.Why.TheVariants.{BadCard, WrongPlace, DuplicateName}
 use Rattle.rtm_deck.proofs.SeenCards.{Sees, CallsAs, calls_of}
 use Rattle.rtm_deck.proofs.SeenAfter.{Accepted}
 use Rattle.rtm_deck.proofs.Rules.{Tests, Answers, broken_is, placed_is}
 
 -- enough values are those that were there, and some of them is given where one is wanted
-enough_found : (wanted : Bool) (vs given : List (Option Value)) → enough wanted vs ≡ Some given → (vs ≡ given) × (IsTrue wanted → IsTrue (list_any is_some given))
+enough_found : (wanted : Bool) (vs given : List (Option Value)) → values_if_enough wanted vs ≡ Some given → (vs ≡ given) × (IsTrue wanted → IsTrue (list_any is_some given))
 enough_found wanted vs given e = found wanted (list_any is_some vs) refl e
   where
     found : (wanted any : Bool) → list_any is_some vs ≡ any → (if wanted && not any then None else Some vs) ≡ Some given → (vs ≡ given) × (IsTrue wanted → IsTrue (list_any is_some given))
@@ -40,7 +40,7 @@ enough_found wanted vs given e = found wanted (list_any is_some vs) refl e
     found true false a e = absurd cc
     found false any a e = let same : vs ≡ given = cc in (same, λ w. absurd cc)
 
-enough_is : (wanted : Bool) (vs : List (Option Value)) → (IsTrue wanted → IsTrue (list_any is_some vs)) → enough wanted vs ≡ Some vs
+enough_is : (wanted : Bool) (vs : List (Option Value)) → (IsTrue wanted → IsTrue (list_any is_some vs)) → values_if_enough wanted vs ≡ Some vs
 enough_is true vs h = ap (λ b. if true && not b then None else Some vs) (h refl)
 enough_is false vs h = refl
 
@@ -53,7 +53,7 @@ read_found : (slots : List Slot) (wanted : Bool) (operands : List (List ℕ)) (v
     → SpellsOperands slots operands values × (IsTrue wanted → IsTrue (list_any is_some values))
 read_found [] wanted operands values e = let f = enough_found wanted [] values e in (sym f.0, f.1)
 read_found (slot ∷ slots) wanted operands values e =
-    let t = and_then_Some (enough wanted) (read_slots (slot ∷ slots) operands) values e in
+    let t = and_then_Some (values_if_enough wanted) (read_slots (slot ∷ slots) operands) values e in
     let f = enough_found wanted t.0 values t.2 in
     (subst (λ (vs : List (Option Value)). SpellsSlots (slot ∷ slots) operands vs) f.0 (read_slots-Some (slot ∷ slots) operands t.0 t.1), f.1)
 
@@ -61,10 +61,10 @@ read_found (slot ∷ slots) wanted operands values e =
 read_is : (slots : List Slot) (wanted : Bool) (operands : List (List ℕ)) (values : List (Option Value)) → well_made slots ≡ true → SpellsOperands slots operands values
     → (IsTrue wanted → IsTrue (list_any is_some values)) → read_by slots wanted operands ≡ Some values
 read_is [] wanted operands values made s some =
-    ap (enough wanted) (sym s) ∙ enough_is wanted values some
+    ap (values_if_enough wanted) (sym s) ∙ enough_is wanted values some
 read_is (slot ∷ slots) wanted operands values made s some =
     let t = table_parts (slot ∷ slots) made in
-    ap (option_and_then (enough wanted)) (read_slots-spelled (slot ∷ slots) operands values t.order t.made s) ∙ enough_is wanted values some
+    ap (option_and_then (values_if_enough wanted)) (read_slots-spelled (slot ∷ slots) operands values t.order t.made s) ∙ enough_is wanted values some
 
 map_Some : {A B : Type 0} (f : A → B) (o : Option A) (y : B) → option_map f o ≡ Some y → (x : A) × (o ≡ Some x) × (f x ≡ y)
 map_Some f None y e = absurd cc
@@ -72,7 +72,7 @@ map_Some f (Some x) y e = (x, refl, cc)
 
 -- what is said by a form
 as_found : (op : List ℕ) (operands : List (List ℕ)) (form : CardForm) (s : SaidView) (b : Bool) → bytes_eq (operation_of form) op ≡ b
-    → (if b then said form (read_by (slots_of form) (needs_some form) operands) else None) ≡ Some s → (operation_of s.form ≡ op) × SpellsForm s.form operands s.values
+    → (if b then reading_of form (read_by (slots_of form) (needs_some form) operands) else None) ≡ Some s → (operation_of s.form ≡ op) × SpellsForm s.form operands s.values
 as_found op operands form s true e h =
     let t = map_Some (λ v. record { form = form; values = v }) (read_by (slots_of form) (needs_some form) operands) s h in
     let r = read_found (slots_of form) (needs_some form) operands t.0 t.1 in
@@ -85,9 +85,9 @@ or_Some None b x e = inr e
 or_Some (Some y) b x e = inl e
 
 -- what is said by the first form that reads the operands
-pub said_found : (op : List ℕ) (operands : List (List ℕ)) (all : List CardForm) (s : SaidView) → said_by op operands all ≡ Some s → (operation_of s.form ≡ op) × SpellsForm s.form operands s.values
+pub said_found : (op : List ℕ) (operands : List (List ℕ)) (all : List CardForm) (s : SaidView) → reading_by op operands all ≡ Some s → (operation_of s.form ≡ op) × SpellsForm s.form operands s.values
 said_found op operands [] s e = absurd cc
-said_found op operands (form ∷ others) s e = elim (or_Some (said_as op operands form) (said_by op operands others) s e) [
+said_found op operands (form ∷ others) s e = elim (or_Some (reading_as op operands form) (reading_by op operands others) s e) [
   | inl h ↦ as_found op operands form s (bytes_eq (operation_of form) op) refl h
   | inr h ↦ said_found op operands others s h
 ]
@@ -96,18 +96,18 @@ or_None : {A : Type 0} (a b : Option A) → option_or a b ≡ None → (a ≡ No
 or_None None b e = (refl, e)
 or_None (Some y) b e = absurd cc
 
-none_says : (op : List ℕ) (operands : List (List ℕ)) (all : List CardForm) → said_by op operands all ≡ None → AllByRecursion (λ form. said_as op operands form ≡ None) all
+none_says : (op : List ℕ) (operands : List (List ℕ)) (all : List CardForm) → reading_by op operands all ≡ None → AllByRecursion (λ form. reading_as op operands form ≡ None) all
 none_says op operands [] e = tt
-none_says op operands (form ∷ others) e = let n = or_None (said_as op operands form) (said_by op operands others) e in (n.0, none_says op operands others n.1)
+none_says op operands (form ∷ others) e = let n = or_None (reading_as op operands form) (reading_by op operands others) e in (n.0, none_says op operands others n.1)
 
 -- operands that no form reads are bad
-pub bad_operands : (c : CardText) → said_by c.op c.operands all_forms ≡ None → HasBadOperands c
+pub bad_operands : (c : CardText) → reading_by c.op c.operands all_forms ≡ None → HasBadOperands c
 bad_operands c e = λ form values op spelled.
-    let none : said_as c.op c.operands form ≡ None = for_each (λ f. said_as c.op c.operands f ≡ None) (none_says c.op c.operands all_forms e) form in
+    let none : reading_as c.op c.operands form ≡ None = for_each (λ f. reading_as c.op c.operands f ≡ None) (none_says c.op c.operands all_forms e) form in
     let is = (bytes_eq-Decides (operation_of form) c.op).1 op in
     let read = read_is (slots_of form) (needs_some form) c.operands values (form_is_well_made form) spelled.spelled spelled.some in
-    let says : said_as c.op c.operands form ≡ Some (record { form = form; values = values }) =
-    ap (λ b. if b then said form (read_by (slots_of form) (needs_some form) c.operands) else None) is ∙ ap (said form) read in
+    let says : reading_as c.op c.operands form ≡ Some (record { form = form; values = values }) =
+    ap (λ b. if b then reading_of form (read_by (slots_of form) (needs_some form) c.operands) else None) is ∙ ap (reading_of form) read in
     let clash = sym none ∙ says in
     absurd cc
 
@@ -128,7 +128,7 @@ none_said None e = refl
 none_said (Some s) e = absurd cc
 
 -- whether the operands can be read
-readable : (c : CardText) → Tests (not (is_some (said_by c.op c.operands all_forms))) (HasBadOperands c)
+readable : (c : CardText) → Tests (not (is_some (reading_by c.op c.operands all_forms))) (HasBadOperands c)
 readable c = record {
   yes = λ e. bad_operands c (none_said _ (not_true _ e));
   no = λ e bad.
@@ -229,7 +229,7 @@ CardLaw s earlier c (Err why) = BreaksFirst earlier c rules why
 CardLaw s earlier c (Ok r) = Accepts s earlier c r
 
 known_law : (s : SeenView) (c : CardText) (earlier : List CardText) (f : CardForm) (said : Option SaidView) (broken : Option Why) → form_named c.op ≡ Some f → IsTrue (is_name_field c.name) → Sees s earlier
-    → said_by c.op c.operands all_forms ≡ said → broken_rule s (role_of f) (name_in c.name) (is_some said) ≡ broken → Answers earlier c rules broken
+    → reading_by c.op c.operands all_forms ≡ said → broken_rule s (role_of f) (name_in c.name) (is_some said) ≡ broken → Answers earlier c rules broken
     → CardLaw s earlier c (read_with c.number (name_in c.name) said broken)
 known_law s c earlier f said (Some why) is field h e b answer = answer
 known_law s c earlier f None None is field h e b answer =
@@ -247,8 +247,8 @@ known_law s c earlier f (Some said) None is field h e b answer =
 law_of : (s : SeenView) (c : CardText) (earlier : List CardText) (o : Option CardForm) → form_named c.op ≡ o → IsTrue (is_name_field c.name) → Sees s earlier → CardLaw s earlier c (read_known s c o)
 law_of s c earlier None is field h = inl (subst (λ (o : Option CardForm). BreaksRule earlier c o UnknownOp) (sym is) refl, refl)
 law_of s c earlier (Some f) is field h =
-    known_law s c earlier f (said_by c.op c.operands all_forms) (broken_rule s (role_of f) (name_in c.name) (is_some (said_by c.op c.operands all_forms))) is field h refl refl
-    (broken_is s c earlier f (is_some (said_by c.op c.operands all_forms)) is field h (readable c))
+    known_law s c earlier f (reading_by c.op c.operands all_forms) (broken_rule s (role_of f) (name_in c.name) (is_some (reading_by c.op c.operands all_forms))) is field h refl refl
+    (broken_is s c earlier f (is_some (reading_by c.op c.operands all_forms)) is field h (readable c))
 
 -- what the reader says of a card behind the others is so
 pub card_law : (s : SeenView) (c : CardText) (earlier : List CardText) → IsTrue (is_name_field c.name) → Sees s earlier → CardLaw s earlier c (read_card s c)

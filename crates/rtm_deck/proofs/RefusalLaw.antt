@@ -12,12 +12,12 @@ use Rattle.rtm_cards.specs.Rules.{fault_of, is_ignored}
 use Rattle.rtm_cards.specs.Cards.{CardText, card_of, cards_from}
 use Rattle.rtm_cards.specs.Faults.{NoCutFault, FirstCutFault, HasNoFault, lines_before}
 use Rattle.rtm_cards.specs.Faults.{IsFirstFault as IsFirstCutFault}
-use Rattle.rtm_items.specs.declared.why.Why.TheVariants.{NoJobStep, NoEnd}
-use Rattle.rtm_items.specs.Faults.{is_called, has_operation, with_line, why_of_cut, HasFault, FormFault, LacksEnd, LacksName, LinesFault, IsFirstFault}
+use Rattle.rtm_deck_items.specs.declared.why.Why.TheVariants.{NoJobStep, NoEnd}
+use Rattle.rtm_deck_items.specs.Faults.{is_called, has_operation, with_line, why_of_cut, HasFault, FormFault, LacksEnd, LacksName, LinesFault, IsFirstFault}
 use Rattle.rtm_deck.specs.View.{SeenView, ScanView, Refusal}
-use Rattle.rtm_deck.specs.Seen.{fresh}
+use Rattle.rtm_deck.specs.Seen.{nothing_seen}
 use Rattle.rtm_deck.specs.References.{refusal, first_nameless}
-use Rattle.rtm_deck.specs.Reader.{scan, why_unended, named, judged, read_cards}
+use Rattle.rtm_deck.specs.Reader.{scan, why_unended, deck_if_named, deck_or_fault, read_cards}
 use Rattle.rtm_deck.proofs.SameNames.{or_false}
 use Rattle.rtm_deck.proofs.SeenCards.{Sees, sees_none}
 use Rattle.rtm_deck.proofs.FormFaults.{AreCut, behind, Scanned, ScanLaw, scan_law}
@@ -83,7 +83,7 @@ take_all (line ∷ lines) = ap (λ l. line ∷ l) (take_all lines)
 
 -- a scan up to a fault of cutting
 cut_refusal : (lines others : List (List ℕ)) (line : List ℕ) (card : ℕ) (broken : CutWhy) (t : Result ScanView Refusal) (r : Refusal) → ScanLaw [] 1 lines [] t → card ≡ 1 + length lines → fault_of card line ≡ Some broken
-    → judged (length lines) (Some (record { card = card; why = broken })) t ≡ Err r → FormFault [] 1 (lines ++ line ∷ others) r.card r.why
+    → deck_or_fault (length lines) (Some (record { card = card; why = broken })) t ≡ Err r → FormFault [] 1 (lines ++ line ∷ others) r.card r.why
 cut_refusal lines others line card broken (Err x) r h number e j = let same : x ≡ r = cc in subst (λ (y : Refusal). FormFault [] 1 (lines ++ line ∷ others) y.card y.why) same (h (line ∷ others))
 cut_refusal lines others line card broken (Ok t) r h number e j =
     let same : refusal card (why_of_cut broken) ≡ r = cc in
@@ -115,17 +115,17 @@ lacks_name lines t x h e f = record {
       (ap (first_nameless t.seen []) (sym h.read) ∙ f);
 }
 
-named_refusal : (lines : List (List ℕ)) (t : ScanView) (r : Refusal) (o : Option Refusal) → Scanned [] 1 lines [] t → t.seen.ended ≡ true → first_nameless t.seen [] t.reads ≡ o → named t o ≡ Err r → LacksName lines r.card r.why
+named_refusal : (lines : List (List ℕ)) (t : ScanView) (r : Refusal) (o : Option Refusal) → Scanned [] 1 lines [] t → t.seen.ended ≡ true → first_nameless t.seen [] t.reads ≡ o → deck_if_named t o ≡ Err r → LacksName lines r.card r.why
 named_refusal lines t r None h e f j = absurd cc
 named_refusal lines t r (Some x) h e f j = let same : x ≡ r = cc in subst (λ (y : Refusal). LacksName lines y.card y.why) same (lacks_name lines t x h e f)
 
 resolved_refusal : (lines : List (List ℕ)) (t : ScanView) (r : Refusal) (b : Bool) → Scanned [] 1 lines [] t → t.seen.ended ≡ b
-    → (if b then named t (first_nameless t.seen [] t.reads) else Err (refusal (length lines + 1) (why_unended t.seen))) ≡ Err r → LinesFault lines r.card r.why
+    → (if b then deck_if_named t (first_nameless t.seen [] t.reads) else Err (refusal (length lines + 1) (why_unended t.seen))) ≡ Err r → LinesFault lines r.card r.why
 resolved_refusal lines t r true h e j = inr (inr (named_refusal lines t r (first_nameless t.seen [] t.reads) h e refl j))
 resolved_refusal lines t r false h e j = let same : refusal (length lines + 1) (why_unended t.seen) ≡ r = cc in subst (λ (y : Refusal). LinesFault lines y.card y.why) same (inr (inl (lacks_end lines t h e)))
 
 -- a scan of all cards
-whole_refusal : (lines : List (List ℕ)) (t : Result ScanView Refusal) (r : Refusal) → ScanLaw [] 1 lines [] t → judged (length lines) None t ≡ Err r → LinesFault lines r.card r.why
+whole_refusal : (lines : List (List ℕ)) (t : Result ScanView Refusal) (r : Refusal) → ScanLaw [] 1 lines [] t → deck_or_fault (length lines) None t ≡ Err r → LinesFault lines r.card r.why
 whole_refusal lines (Err x) r h j = let same : x ≡ r = cc in subst (λ (y : Refusal). LinesFault lines y.card y.why) same (inl (subst (λ (l : List (List ℕ)). FormFault [] 1 l x.card x.why) (append-nil lines) (h [])))
 whole_refusal lines (Ok t) r h j = resolved_refusal lines t r t.seen.ended h refl j
 
@@ -141,15 +141,15 @@ cut_lines_refusal lines f r h e =
     subst (λ (m : ℕ). fault_of (1 + k) (slice_index_or lines m []) ≡ None) (omega arith) (h.least (1 + k) (omega arith) (omega (arith, few)))) in
     let whole : front ++ (slice_index_or lines n [] ∷ at.0) ≡ lines = ap (λ l. front ++ l) (sym at.1) ∙ take-append-drop n lines in
     subst (λ (l : List (List ℕ)). FormFault [] 1 l r.card r.why) whole
-    (cut_refusal front at.0 (slice_index_or lines n []) f.card f.why (scan [] fresh (cards_from 1 front)) r (scan_law front 1 [] [] fresh cut sees_none)
-    (omega (arith, is, h.counted)) h.broken (subst (λ (m : ℕ). judged m (Some f) (scan [] fresh (cards_from 1 front)) ≡ Err r) (sym is) e))
+    (cut_refusal front at.0 (slice_index_or lines n []) f.card f.why (scan [] nothing_seen (cards_from 1 front)) r (scan_law front 1 [] [] nothing_seen cut sees_none)
+    (omega (arith, is, h.counted)) h.broken (subst (λ (m : ℕ). deck_or_fault m (Some f) (scan [] nothing_seen (cards_from 1 front)) ≡ Err r) (sym is) e))
 
 cut_all : (lines : List (List ℕ)) → NoCutFault lines → AreCut 1 lines
 cut_all lines h = subst (λ (l : List (List ℕ)). AreCut 1 l) (take_all lines)
     (cut_to (length lines) lines 1 (omega arith) (λ k few. subst (λ (m : ℕ). fault_of (1 + k) (slice_index_or lines m []) ≡ None) (omega arith) (h (1 + k) (omega arith) (omega (arith, few)))))
 
 -- an input that is refused, by its size
-by_size : (bytes : List ℕ) (n : ℕ) (f : CutFault) (r : Refusal) → max_bytes < length bytes → IsFirstCutFault bytes f → judged n (Some f) (scan [] fresh (cards_from 1 [])) ≡ Err r → IsFirstFault bytes r.card r.why
+by_size : (bytes : List ℕ) (n : ℕ) (f : CutFault) (r : Refusal) → max_bytes < length bytes → IsFirstCutFault bytes f → deck_or_fault n (Some f) (scan [] nothing_seen (cards_from 1 [])) ≡ Err r → IsFirstFault bytes r.card r.why
 by_size bytes n f r long h e =
     let same : refusal f.card (why_of_cut f.why) ≡ r = cc in
     let by = h.by_size long in
@@ -169,7 +169,7 @@ refusal_law bytes None r h e = record {
   by_card = λ few.
       let lines = lines_of bytes in
       let read = subst (λ (l : List (List ℕ)). read_cards (cards_from 1 l) (length lines) None ≡ Err r) (take_all lines) e in
-      whole_refusal lines (scan [] fresh (cards_from 1 lines)) r (scan_law lines 1 [] [] fresh (cut_all lines h.cards) sees_none) read;
+      whole_refusal lines (scan [] nothing_seen (cards_from 1 lines)) r (scan_law lines 1 [] [] nothing_seen (cut_all lines h.cards) sees_none) read;
 }
 refusal_law bytes (Some f) r h e = elim (cases_lt max_bytes (length bytes)) [
   | inl long ↦ by_size bytes 0 f r long h (subst (λ (n : ℕ). read_cards (cards_from 1 (take n (lines_of bytes))) n (Some f) ≡ Err r) (none_taken bytes (f.card - 1) long) e)

@@ -5,15 +5,15 @@ use Rattle.std.specs.List.{list_any}
 use Rattle.std.proofs.lemmas.Bool.{ne_eqb}
 use Rattle.rtm_cards.specs.Name.{is_name, is_name_field}
 use Rattle.rtm_cards.specs.Cards.{CardText}
-use Rattle.rtm_operands.specs.Name.{padded}
-use Rattle.rtm_operands.specs.Reading.{name_in}
-use Rattle.rtm_operands.proofs.Names.{trimmed-padded, is_padded-padded}
-use Rattle.rtm_items.specs.declared.why.Why.{Why}
-use Rattle.rtm_items.specs.declared.why.Why.TheVariants.{UnknownOp, BadCard, WrongPlace, BadOperand, DuplicateName, OverLimit, NoJobStep}
-use Rattle.rtm_items.specs.declared.form.CardForm.{CardForm}
-use Rattle.rtm_items.specs.declared.form.CardForm.TheVariants as forms
-use Rattle.rtm_items.specs.Forms.{is_inside, form_named, name_field}
-use Rattle.rtm_items.specs.Faults.{is_called, is_named, has_operation, is_unit_card, since_program, is_misnamed, is_misplaced, is_out_of_order, differ, is_doubled, is_over_limit, lacks_task, HasBadOperands, BreaksAs, BreaksRule, Breaks, BreaksFirst, BreaksNone, rules}
+use Rattle.rtm_deck_operands.specs.Name.{padded_text}
+use Rattle.rtm_deck_operands.specs.Reading.{name_in}
+use Rattle.rtm_deck_operands.proofs.Names.{trimmed_text-padded_text, is_padded-padded_text}
+use Rattle.rtm_deck_items.specs.declared.why.Why.{Why}
+use Rattle.rtm_deck_items.specs.declared.why.Why.TheVariants.{UnknownOp, BadCard, WrongPlace, BadOperand, DuplicateName, OverLimit, NoJobStep}
+use Rattle.rtm_deck_items.specs.declared.form.CardForm.{CardForm}
+use Rattle.rtm_deck_items.specs.declared.form.CardForm.TheVariants as forms
+use Rattle.rtm_deck_items.specs.Forms.{is_inside, form_named, name_field}
+use Rattle.rtm_deck_items.specs.Faults.{is_called, is_named, has_operation, is_unit_card, since_program, is_misnamed, is_misplaced, is_out_of_order, differ, is_doubled, is_over_limit, lacks_task, HasBadOperands, BreaksAs, BreaksRule, Breaks, BreaksFirst, BreaksNone, rules}
 use Rattle.rtm_deck.specs.declared.role.Role.{Role}
 use Rattle.rtm_deck.specs.declared.role.Role.TheVariants.{Region, Program, ProgramEnd, Task, Srb, Commands, Command, End, Line}
 use Rattle.rtm_deck.specs.View.{SeenView}
@@ -129,7 +129,7 @@ as_role forms.IfClup = record { misnamed = λ t. refl; inside = refl; order = λ
 as_role forms.IfPerc = record { misnamed = λ t. refl; inside = refl; order = λ e. refl; doubled = λ e n. refl; over = λ e. refl; lacks = λ e. refl }
 
 -- the name of a card is left out where its name field is empty
-none_is_empty : (text : List ℕ) (b : Bool) → is_name text ≡ b → (length text == 0 || b) ≡ true → is_none (if b then Some (padded text) else None) ≡ (length text == 0)
+none_is_empty : (text : List ℕ) (b : Bool) → is_name text ≡ b → (length text == 0 || b) ≡ true → is_none (if b then Some (padded_text text) else None) ≡ (length text == 0)
 none_is_empty [] true e field = absurd cc
 none_is_empty [] false e field = refl
 none_is_empty (t ∷ ts) true e field = sym (ne_eqb (suc (length ts)) 0 (λ h. absurd (omega (arith, h))))
@@ -193,18 +193,18 @@ placed_is s role e =
 
 -- a name that stands among the names of such cards
 holds_text : (names : List (List ℕ)) (test : CardText → Bool) (cards : List CardText) (text : List ℕ) → is_name text ≡ true → Holds names test cards
-    → has_name names (padded text) ≡ list_any (λ c. test c && is_named text c) cards
-holds_text names test cards text is h = h (padded text) (is_padded-padded text is) ∙ ap (λ t. list_any (λ c. test c && is_named t c) cards) (trimmed-padded text is)
+    → has_name names (padded_text text) ≡ list_any (λ c. test c && is_named text c) cards
+holds_text names test cards text is h = h (padded_text text) (is_padded-padded_text text is) ∙ ap (λ t. list_any (λ c. test c && is_named t c) cards) (trimmed_text-padded_text text is)
 
 -- a name that has to be given
-given_text : (names : List (List ℕ)) (test : CardText → Bool) (cards : List CardText) (text : List ℕ) (b : Bool) → is_name text ≡ b → is_none (if b then Some (padded text) else None) ≡ false → Holds names test cards
-    → has_given names (if b then Some (padded text) else None) ≡ list_any (λ c. test c && is_named text c) cards
+given_text : (names : List (List ℕ)) (test : CardText → Bool) (cards : List CardText) (text : List ℕ) (b : Bool) → is_name text ≡ b → is_none (if b then Some (padded_text text) else None) ≡ false → Holds names test cards
+    → has_given names (if b then Some (padded_text text) else None) ≡ list_any (λ c. test c && is_named text c) cards
 given_text names test cards text true is some h = holds_text names test cards text is h
 given_text names test cards text false is some h = absurd cc
 
 -- a label that may be given
 label_text : (names : List (List ℕ)) (cards : List CardText) (text : List ℕ) (b : Bool) → is_name text ≡ b → (length text == 0 || b) ≡ true → Holds names any_card cards
-    → has_given names (if b then Some (padded text) else None) ≡ (not (length text == 0) && list_any (is_named text) cards)
+    → has_given names (if b then Some (padded_text text) else None) ≡ (not (length text == 0) && list_any (is_named text) cards)
 label_text names cards [] true is field h = absurd cc
 label_text names cards [] false is field h = refl
 label_text names cards (t ∷ ts) true is field h =

@@ -5,9 +5,9 @@ use Rattle.std.proofs.lemmas.Bool.{ne_eqb}
 use Rattle.std.proofs.lemmas.List.Folds.{list_any-append}
 use Rattle.std.proofs.lemmas.Slice.Eq.{bytes_eq-Decides}
 use Rattle.rtm_cards.specs.Name.{is_name, is_name_field}
-use Rattle.rtm_operands.specs.Name.{padded, trimmed, is_padded_name}
-use Rattle.rtm_operands.specs.Reading.{name_in}
-use Rattle.rtm_operands.proofs.Names.{trimmed-padded, padded_parts}
+use Rattle.rtm_deck_operands.specs.Name.{padded_text, trimmed_text, is_padded_name}
+use Rattle.rtm_deck_operands.specs.Reading.{name_in}
+use Rattle.rtm_deck_operands.proofs.Names.{trimmed_text-padded_text, padded_parts}
 use Rattle.rtm_deck.specs.Seen.{has_name, insert_name, with_name}
 
 -- two tests are equal where each gives the other
@@ -31,14 +31,14 @@ or_swap false true = refl
 or_swap false false = refl
 
 -- a name and a text with its padding are equal where the name without its padding is the text
-pub same_name : (name text : List ℕ) → IsTrue (is_padded_name name) → is_name text ≡ true → bytes_eq name (padded text) ≡ bytes_eq text (trimmed name)
+pub same_name : (name text : List ℕ) → IsTrue (is_padded_name name) → is_name text ≡ true → bytes_eq name (padded_text text) ≡ bytes_eq text (trimmed_text name)
 same_name name text h t = same_test _ _
     (λ e.
-    let same : name ≡ padded text = (bytes_eq-Decides name (padded text)).0 e in
-    (bytes_eq-Decides text (trimmed name)).1 (sym (ap trimmed same ∙ trimmed-padded text t)))
+    let same : name ≡ padded_text text = (bytes_eq-Decides name (padded_text text)).0 e in
+    (bytes_eq-Decides text (trimmed_text name)).1 (sym (ap trimmed_text same ∙ trimmed_text-padded_text text t)))
     (λ e.
-    let same : text ≡ trimmed name = (bytes_eq-Decides text (trimmed name)).0 e in
-    (bytes_eq-Decides name (padded text)).1 ((padded_parts name h).whole ∙ sym (ap padded same)))
+    let same : text ≡ trimmed_text name = (bytes_eq-Decides text (trimmed_text name)).0 e in
+    (bytes_eq-Decides name (padded_text text)).1 ((padded_parts name h).whole ∙ sym (ap padded_text same)))
 
 -- a name has characters
 trimmed_ne_nil : (bytes : List ℕ) → is_name bytes ≡ true → bytes_eq [] bytes ≡ false
@@ -69,16 +69,16 @@ has_insert names one name = has_inserted names one name (has_name names one) ref
 
 -- the names behind a card with that name field: those before, and the card's
 named_with : (names : List (List ℕ)) (text name : List ℕ) (b : Bool) → is_name text ≡ b → (length text == 0 || b) ≡ true → IsTrue (is_padded_name name)
-    → has_name (with_name names (if b then Some (padded text) else None)) name ≡ (has_name names name || bytes_eq text (trimmed name))
-named_with names text name true e field h = has_insert names (padded text) name ∙ ap (λ b. has_name names name || b) (same_name name text h e)
-named_with names [] name false e field h = sym (ap (λ b. has_name names name || b) (trimmed_ne_nil (trimmed name) (padded_parts name h).name) ∙ or_false (has_name names name))
+    → has_name (with_name names (if b then Some (padded_text text) else None)) name ≡ (has_name names name || bytes_eq text (trimmed_text name))
+named_with names text name true e field h = has_insert names (padded_text text) name ∙ ap (λ b. has_name names name || b) (same_name name text h e)
+named_with names [] name false e field h = sym (ap (λ b. has_name names name || b) (trimmed_ne_nil (trimmed_text name) (padded_parts name h).name) ∙ or_false (has_name names name))
 named_with names (t ∷ ts) name false e field h =
     let none : ((suc (length ts) == 0) || false) ≡ false = ap (λ b. b || false) (ne_eqb (suc (length ts)) 0 (λ e. absurd (omega (arith, e)))) in
     let clash : false ≡ true = sym none ∙ field in
     absurd cc
 
 pub has_with : (names : List (List ℕ)) (text name : List ℕ) → IsTrue (is_name_field text) → IsTrue (is_padded_name name)
-    → has_name (with_name names (name_in text)) name ≡ (has_name names name || bytes_eq text (trimmed name))
+    → has_name (with_name names (name_in text)) name ≡ (has_name names name || bytes_eq text (trimmed_text name))
 has_with names text name field h = named_with names text name (is_name text) refl field h
 
 -- a set that holds no such name is longer by it

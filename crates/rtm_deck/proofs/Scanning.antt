@@ -5,7 +5,7 @@ use Rattle.std.specs.List.{AllByRecursion}
 use Rattle.std.proofs.Math.Seq.{drop-cons}
 use Rattle.rtm_cards.specs.Cards.{card_text, HasSpansIn}
 use Rattle.rtm_cards.specs.declared.card.Card.{Card}
-use Rattle.rtm_items.specs.declared.why.Why.{Why}
+use Rattle.rtm_deck_items.specs.declared.why.Why.{Why}
 use Rattle.rtm_deck.specs.declared.role.Role.{Role}
 use Rattle.rtm_deck.specs.declared.role.Role.TheVariants.{Region, Program, ProgramEnd, Task, Srb, Commands, Command, End, Line}
 use Rattle.rtm_deck.specs.View.{ReadView, SeenView, ScanView, Refusal}

@@ -4,9 +4,9 @@ use Rattle.std.specs.Prelude.{codes, IsTrue, ◌==◌, if◌then◌else◌}
 use Rattle.std.proofs.lemmas.Bool.{ne_eqb}
 use Rattle.rtm_cards.specs.Name.{is_name_field}
 use Rattle.rtm_cards.specs.Cards.{CardText}
-use Rattle.rtm_operands.specs.Reading.{name_in}
-use Rattle.rtm_items.specs.Faults.{is_called, is_unit_card, since_program}
-use Rattle.rtm_spelling.proofs.Behind.{opened, closed, stays, since_start, since_more}
+use Rattle.rtm_deck_operands.specs.Reading.{name_in}
+use Rattle.rtm_deck_items.specs.Faults.{is_called, is_unit_card, since_program}
+use Rattle.rtm_deck_spelling.proofs.Behind.{opened, closed, stays, since_start, since_more}
 use Rattle.rtm_deck.specs.declared.role.Role.{Role}
 use Rattle.rtm_deck.specs.declared.role.Role.TheVariants.{Region, Program, ProgramEnd, Task, Srb, Commands, Command, End, Line}
 use Rattle.rtm_deck.specs.View.{SeenView}

@@ -6,18 +6,18 @@ use Rattle.std.specs.List.{list_any}
 use Rattle.std.proofs.lemmas.List.Sums.{sum_by-cons}
 use Rattle.rtm_cards.specs.Name.{is_name_field}
 use Rattle.rtm_cards.specs.Cards.{CardText}
-use Rattle.rtm_operands.specs.Name.{trimmed, is_padded_name}
-use Rattle.rtm_operands.specs.Reading.{name_in}
-use Rattle.rtm_items.specs.declared.form.CardForm.{CardForm}
-use Rattle.rtm_items.specs.Forms.{operation_of, is_inside, form_named}
-use Rattle.rtm_items.specs.Faults.{is_called, is_named, has_operation, is_in_program, is_unit_card, since_program}
-use Rattle.rtm_spelling.proofs.Forms.{for_each_test}
-use Rattle.rtm_spelling.proofs.RuleTests.{called_as, named_first, first_form}
+use Rattle.rtm_deck_operands.specs.Name.{trimmed_text, is_padded_name}
+use Rattle.rtm_deck_operands.specs.Reading.{name_in}
+use Rattle.rtm_deck_items.specs.declared.form.CardForm.{CardForm}
+use Rattle.rtm_deck_items.specs.Forms.{operation_of, is_inside, form_named}
+use Rattle.rtm_deck_items.specs.Faults.{is_called, is_named, has_operation, is_in_program, is_unit_card, since_program}
+use Rattle.rtm_deck_spelling.proofs.Forms.{for_each_test}
+use Rattle.rtm_deck_spelling.proofs.RuleTests.{called_as, named_first, first_form}
 use Rattle.rtm_deck.specs.declared.role.Role.{Role}
 use Rattle.rtm_deck.specs.declared.role.Role.TheVariants.{ProgramEnd, Task, Srb, Commands, Command, End, Line}
 use Rattle.rtm_deck.specs.View.{SeenView}
 use Rattle.rtm_deck.specs.Roles.{role_of, is_program_role}
-use Rattle.rtm_deck.specs.Seen.{fresh, has_name, with_name}
+use Rattle.rtm_deck.specs.Seen.{has_name, nothing_seen, with_name}
 use Rattle.rtm_deck.proofs.SameNames.{has_with, or_swap}
 
 -- a card of the text of a program
@@ -26,7 +26,7 @@ is_text c = option_map_or is_inside (form_named c.op) false
 
 -- The set has the names of the cards that pass the test.
 abbrev pub Holds : List (List ℕ) → (CardText → Bool) → List CardText → Type 0
-Holds names test cards = (name : List ℕ) → IsTrue (is_padded_name name) → has_name names name ≡ list_any (λ c. test c && is_named (trimmed name) c) cards
+Holds names test cards = (name : List ℕ) → IsTrue (is_padded_name name) → has_name names name ≡ list_any (λ c. test c && is_named (trimmed_text name) c) cards
 
 abbrev pub any_card : CardText → Bool
 any_card c = true
@@ -48,7 +48,7 @@ pub record Sees (s : SeenView) (cards : List CardText) : Type 0 where
   pub task_there : (length s.tasks == 0) ≡ not (has_operation (codes "TASK") cards)
   pub command_count : s.commands ≡ count_by (is_called (codes "CANCEL")) cards
 
-pub sees_none : Sees fresh []
+pub sees_none : Sees nothing_seen []
 sees_none = record {
   started = refl;
   inside = refl;
@@ -160,16 +160,16 @@ calls_of c f e = record {
 
 -- a test of a card that it passes, or doesn't, before others
 any_with : (test : CardText → Bool) (c : CardText) (cards : List CardText) (name : List ℕ) (b : Bool) → test c ≡ b
-    → list_any (λ x. test x && is_named (trimmed name) x) (c ∷ cards) ≡ ((b && is_named (trimmed name) c) || list_any (λ x. test x && is_named (trimmed name) x) cards)
-any_with test c cards name b e = ap (λ t. (t && is_named (trimmed name) c) || list_any (λ x. test x && is_named (trimmed name) x) cards) e
+    → list_any (λ x. test x && is_named (trimmed_text name) x) (c ∷ cards) ≡ ((b && is_named (trimmed_text name) c) || list_any (λ x. test x && is_named (trimmed_text name) x) cards)
+any_with test c cards name b e = ap (λ t. (t && is_named (trimmed_text name) c) || list_any (λ x. test x && is_named (trimmed_text name) x) cards) e
 
 -- a set, with one more card that passes the test
 pub holds_more : (names : List (List ℕ)) (test : CardText → Bool) (c : CardText) (cards : List CardText) → test c ≡ true → IsTrue (is_name_field c.name)
     → Holds names test cards → Holds (with_name names (name_in c.name)) test (c ∷ cards)
 holds_more names test c cards e field h name is =
     has_with names c.name name field is
-    ∙ ap (λ b. b || bytes_eq c.name (trimmed name)) (h name is)
-    ∙ or_swap (list_any (λ x. test x && is_named (trimmed name) x) cards) (bytes_eq c.name (trimmed name))
+    ∙ ap (λ b. b || bytes_eq c.name (trimmed_text name)) (h name is)
+    ∙ or_swap (list_any (λ x. test x && is_named (trimmed_text name) x) cards) (bytes_eq c.name (trimmed_text name))
     ∙ sym (any_with test c cards name true e)
 
 -- a set, with one more card that doesn't pass it

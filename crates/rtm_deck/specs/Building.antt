@@ -1,16 +1,16 @@
 -- The deck that cards say, whose names are all there.
 use Rattle.std.specs.Prelude.{ℕ, ◌+◌, if◌then◌else◌, List, [], ◌∷◌, Option, Some, None, unwrap_or, filter_map}
-use Rattle.rtm_items.specs.declared.deck.Line.{Line as LineCard}
-use Rattle.rtm_items.specs.declared.deck.Unit.{Unit as UnitCard}
-use Rattle.rtm_items.specs.declared.deck.Command.{Command as CommandCard}
-use Rattle.rtm_items.specs.declared.deck.UnitKind.{UnitKind}
-use Rattle.rtm_items.specs.declared.deck.UnitKind.TheVariants as kinds
-use Rattle.rtm_items.specs.View.{ProgramView, DeckView}
+use Rattle.rtm_deck_items.specs.declared.deck.Line.{Line as LineCard}
+use Rattle.rtm_deck_items.specs.declared.deck.Unit.{Unit as UnitCard}
+use Rattle.rtm_deck_items.specs.declared.deck.Command.{Command as CommandCard}
+use Rattle.rtm_deck_items.specs.declared.deck.UnitKind.{UnitKind}
+use Rattle.rtm_deck_items.specs.declared.deck.UnitKind.TheVariants as kinds
+use Rattle.rtm_deck_items.specs.View.{ProgramView, DeckView}
 use Rattle.rtm_deck.specs.declared.role.Role.{Role}
 use Rattle.rtm_deck.specs.declared.role.Role.TheVariants.{Region, Program, Task, Srb, Command}
 use Rattle.rtm_deck.specs.View.{ReadView, SeenView, ScanView}
 use Rattle.rtm_deck.specs.Roles.{role_of, is_line}
-use Rattle.rtm_deck.specs.Operations.{op_of, named_at, named_in, number_at, flag_at, value_at, no_name}
+use Rattle.rtm_deck.specs.Operations.{op_of, named_number_at, named_number_in, number_at, flag_at, value_at, no_name}
 
 -- the card of a program
 abbrev pub line_of : SeenView → ReadView → LineCard
@@ -39,12 +39,12 @@ programs_from s [] = []
 programs_from s (r ∷ rs) = programs_with s (role_of r.form) r rs (programs_from s rs)
 
 abbrev pub unit_of : SeenView → ReadView → UnitKind → Option ℕ → UnitCard
-unit_of s r kind related = record { name = unwrap_or r.name no_name; kind = kind; prog = named_at s.programs r.values 0; related = related }
+unit_of s r kind related = record { name = unwrap_or r.name no_name; kind = kind; prog = named_number_at s.programs r.values 0; related = related }
 
 -- the unit of work that a card says
 abbrev pub unit_in : SeenView → Role → ReadView → Option UnitCard
 unit_in s Task r = Some (unit_of s r kinds.Task None)
-unit_in s Srb r = Some (unit_of s r kinds.Srb (named_in s.units (value_at r.values 1)))
+unit_in s Srb r = Some (unit_of s r kinds.Srb (named_number_in s.units (value_at r.values 1)))
 unit_in s _ r = None
 
 abbrev pub units_from : SeenView → List ReadView → List UnitCard
@@ -52,7 +52,7 @@ units_from s reads = filter_map (λ r. unit_in s (role_of r.form) r) reads
 
 -- the command that a card says
 abbrev pub command_in : SeenView → Role → ReadView → Option CommandCard
-command_in s Command r = Some (record { target = named_at s.units r.values 0; at = number_at r.values 1; dump = flag_at r.values 2 })
+command_in s Command r = Some (record { target = named_number_at s.units r.values 0; at = number_at r.values 1; dump = flag_at r.values 2 })
 command_in s _ r = None
 
 abbrev pub commands_from : SeenView → List ReadView → List CommandCard

@@ -3,16 +3,16 @@ use Rattle.std.specs.Prelude.{ℕ, Bool, false, nat_lt, if◌then◌else◌, Lis
 use Rattle.std.specs.Option.{option_flatten}
 use Rattle.rtm_codes.specs.declared.code.Code.{Code}
 use Rattle.rtm_codes.specs.declared.code.Code.TheVariants.{Sys}
-use Rattle.rtm_operands.specs.declared.value.Value.{Value}
-use Rattle.rtm_operands.specs.declared.value.Value.TheVariants as values
-use Rattle.rtm_operands.specs.declared.value.Three.{Three}
-use Rattle.rtm_operands.specs.declared.value.Res.{Res}
-use Rattle.rtm_operands.specs.declared.value.Res.TheVariants as classes
-use Rattle.rtm_items.specs.declared.form.CardForm.{CardForm}
-use Rattle.rtm_items.specs.declared.form.CardForm.TheVariants as forms
-use Rattle.rtm_items.specs.declared.op.Op.{Op}
-use Rattle.rtm_items.specs.declared.op.Op.TheVariants as ops
-use Rattle.rtm_items.specs.declared.op.Setrp.{Setrp}
+use Rattle.rtm_deck_operands.specs.declared.value.Value.{Value}
+use Rattle.rtm_deck_operands.specs.declared.value.Value.TheVariants as values
+use Rattle.rtm_deck_operands.specs.declared.value.Three.{Three}
+use Rattle.rtm_deck_operands.specs.declared.value.Res.{Res}
+use Rattle.rtm_deck_operands.specs.declared.value.Res.TheVariants as classes
+use Rattle.rtm_deck_items.specs.declared.form.CardForm.{CardForm}
+use Rattle.rtm_deck_items.specs.declared.form.CardForm.TheVariants as forms
+use Rattle.rtm_deck_items.specs.declared.op.Op.{Op}
+use Rattle.rtm_deck_items.specs.declared.op.Op.TheVariants as ops
+use Rattle.rtm_deck_items.specs.declared.op.Setrp.{Setrp}
 use Rattle.rtm_deck.specs.View.{SeenView}
 
 -- the value at that place
@@ -81,11 +81,11 @@ abbrev pub index_in : List (List ℕ) → List ℕ → ℕ
 index_in names name = let i = unwrap_or (position (bytes_eq name) names) 0 in if nat_lt i 65536 then i else 0
 
 -- the number of the program or unit that the value names, if there is one
-abbrev pub named_in : List (List ℕ) → Option Value → Option ℕ
-named_in names value = option_map (index_in names) (name_in value)
+abbrev pub named_number_in : List (List ℕ) → Option Value → Option ℕ
+named_number_in names value = option_map (index_in names) (name_in value)
 
-abbrev pub named_at : List (List ℕ) → List (Option Value) → ℕ → ℕ
-named_at names vs i = unwrap_or (named_in names (value_at vs i)) 0
+abbrev pub named_number_at : List (List ℕ) → List (Option Value) → ℕ → ℕ
+named_number_at names vs i = unwrap_or (named_number_in names (value_at vs i)) 0
 
 -- the options of a SETRP card
 abbrev pub setrp_of : List (Option Value) → Setrp
@@ -105,8 +105,8 @@ abbrev pub plain_op : SeenView → CardForm → List (Option Value) → Op
 plain_op s forms.Nop vs = ops.Nop
 plain_op s forms.Get vs = ops.Get (class_at vs 0) (number_at vs 1)
 plain_op s forms.Free vs = ops.Free (class_at vs 0) (number_at vs 1)
-plain_op s forms.Link vs = ops.Link (named_at s.programs vs 0)
-plain_op s forms.Xctl vs = ops.Xctl (named_at s.programs vs 0)
+plain_op s forms.Link vs = ops.Link (named_number_at s.programs vs 0)
+plain_op s forms.Xctl vs = ops.Xctl (named_number_at s.programs vs 0)
 plain_op s forms.Return vs = ops.Return
 plain_op s forms.Abend vs = ops.Abend (code_at vs 0) (reason_at vs 1) (flag_at vs 2) (flag_at vs 3)
 plain_op s forms.Wait vs = ops.Wait (byte_at vs 0)
@@ -116,26 +116,26 @@ plain_op s _ vs = ops.Nop
 
 -- what a card does with a recovery routine or a resource manager
 abbrev pub routine_op : SeenView → CardForm → List (Option Value) → Op
-routine_op s forms.EstaexCt vs = ops.EstaexCt (named_at s.programs vs 1) (flag_at vs 2) (flag_at vs 3) (flag_at vs 4)
-routine_op s forms.EstaexOv vs = ops.EstaexOv (named_at s.programs vs 1) (flag_at vs 2) (flag_at vs 3) (flag_at vs 4)
+routine_op s forms.EstaexCt vs = ops.EstaexCt (named_number_at s.programs vs 1) (flag_at vs 2) (flag_at vs 3) (flag_at vs 4)
+routine_op s forms.EstaexOv vs = ops.EstaexOv (named_number_at s.programs vs 1) (flag_at vs 2) (flag_at vs 3) (flag_at vs 4)
 routine_op s forms.EstaexZero vs = ops.EstaexZero
-routine_op s forms.FrrAdd vs = ops.FrrAdd (named_at s.programs vs 1)
+routine_op s forms.FrrAdd vs = ops.FrrAdd (named_number_at s.programs vs 1)
 routine_op s forms.FrrDelete vs = ops.FrrDelete
-routine_op s forms.FrrReplace vs = ops.FrrReplace (named_at s.programs vs 1)
+routine_op s forms.FrrReplace vs = ops.FrrReplace (named_number_at s.programs vs 1)
 routine_op s forms.FrrPurge vs = ops.FrrPurge
-routine_op s forms.MgrAdd vs = ops.MgrAdd (named_at s.programs vs 1) (flag_at vs 2)
-routine_op s forms.MgrDelete vs = ops.MgrDelete (named_at s.programs vs 1) (flag_at vs 2)
+routine_op s forms.MgrAdd vs = ops.MgrAdd (named_number_at s.programs vs 1) (flag_at vs 2)
+routine_op s forms.MgrDelete vs = ops.MgrDelete (named_number_at s.programs vs 1) (flag_at vs 2)
 routine_op s _ vs = ops.Nop
 
 -- what a card does to a unit of work, or by a label
 abbrev pub unit_op : SeenView → CardForm → List (Option Value) → Op
-unit_op s forms.Attachx vs = ops.Attachx (named_at s.units vs 0) None false
-unit_op s forms.AttachxEstai vs = ops.Attachx (named_at s.units vs 0) (Some (named_at s.programs vs 1)) (flag_at vs 2)
-unit_op s forms.Detach vs = ops.Detach (named_at s.units vs 0) (flag_at vs 1)
-unit_op s forms.Abterm vs = ops.Abterm (named_at s.units vs 1) (code_at vs 2) (reason_at vs 3) (flag_at vs 4) (flag_at vs 5)
+unit_op s forms.Attachx vs = ops.Attachx (named_number_at s.units vs 0) None false
+unit_op s forms.AttachxEstai vs = ops.Attachx (named_number_at s.units vs 0) (Some (named_number_at s.programs vs 1)) (flag_at vs 2)
+unit_op s forms.Detach vs = ops.Detach (named_number_at s.units vs 0) (flag_at vs 1)
+unit_op s forms.Abterm vs = ops.Abterm (named_number_at s.units vs 1) (code_at vs 2) (reason_at vs 3) (flag_at vs 4) (flag_at vs 5)
 unit_op s forms.Memterm vs = ops.Memterm (code_at vs 1)
-unit_op s forms.Schedule vs = ops.Schedule (named_at s.units vs 0)
-unit_op s forms.WaitTask vs = ops.WaitTask (named_at s.units vs 0)
+unit_op s forms.Schedule vs = ops.Schedule (named_number_at s.units vs 0)
+unit_op s forms.WaitTask vs = ops.WaitTask (named_number_at s.units vs 0)
 unit_op s forms.Branch vs = ops.Branch (label_at vs 0)
 unit_op s forms.IfCode vs = ops.IfCode (code_at vs 0) (label_at vs 1)
 unit_op s forms.IfClup vs = ops.IfClup (label_at vs 0)

@@ -1,23 +1,23 @@
 -- The deck that an input spells, or its first fault, computed. What they are is said by DeckText and IsFirstFault of
--- rtm_items: what is read keeps them by the laws of proofs/.
+-- rtm_deck_items: what is read keeps them by the laws of proofs/.
 use Rattle.std.specs.Prelude.{◌≡◌, ℕ, ◌+◌, ◌==◌, if◌then◌else◌, List, [], ◌∷◌, ◌++◌, length, Option, Some, None, Result, Ok, Err}
 use Rattle.rtm_cards.specs.Cards.{CardText}
 use Rattle.rtm_cards.specs.declared.fault.CutFault.{CutFault}
-use Rattle.rtm_items.specs.declared.why.Why.{Why}
-use Rattle.rtm_items.specs.declared.why.Why.TheVariants.{NoJobStep, NoEnd}
-use Rattle.rtm_items.specs.Faults.{why_of_cut}
-use Rattle.rtm_items.specs.View.{DeckView}
+use Rattle.rtm_deck_items.specs.declared.why.Why.{Why}
+use Rattle.rtm_deck_items.specs.declared.why.Why.TheVariants.{NoJobStep, NoEnd}
+use Rattle.rtm_deck_items.specs.Faults.{why_of_cut}
+use Rattle.rtm_deck_items.specs.View.{DeckView}
 use Rattle.rtm_deck.specs.declared.fault.DeckFault.{DeckFault}
 use Rattle.rtm_deck.specs.declared.fault.DeckFault.TheVariants.{Memory, Refused}
 use Rattle.rtm_deck.specs.View.{ReadView, SeenView, ScanView, Refusal}
 use Rattle.rtm_deck.specs.Roles.{role_of}
-use Rattle.rtm_deck.specs.Seen.{fresh, after, read_card}
+use Rattle.rtm_deck.specs.Seen.{nothing_seen, after, read_card}
 use Rattle.rtm_deck.specs.References.{refusal, first_nameless}
 use Rattle.rtm_deck.specs.Building.{deck_of}
 
 -- what was read, and seen behind it
-abbrev pub scanned : List ReadView → SeenView → ScanView
-scanned reads seen = record { reads = reads; seen = seen }
+abbrev pub scan_of : List ReadView → SeenView → ScanView
+scan_of reads seen = record { reads = reads; seen = seen }
 
 -- how it goes on behind a card
 abbrev pub scan_on : ℕ → Result ReadView Why → (ReadView → Result ScanView Refusal) → Result ScanView Refusal
@@ -26,33 +26,33 @@ scan_on number (Ok r) others = others r
 
 -- the cards behind those that were read, up to the first that breaks a rule of form
 abbrev pub scan : List ReadView → SeenView → List CardText → Result ScanView Refusal
-scan reads s [] = Ok (scanned reads s)
+scan reads s [] = Ok (scan_of reads s)
 scan reads s (c ∷ cs) =
     scan_on c.number (read_card s c) (λ r. scan (reads ++ r ∷ []) (after s (role_of r.form) r.name) cs)
 
 -- the deck, where each name is there
-abbrev pub named : ScanView → Option Refusal → Result DeckView Refusal
-named t (Some r) = Err r
-named t None = Ok (deck_of t)
+abbrev pub deck_if_named : ScanView → Option Refusal → Result DeckView Refusal
+deck_if_named t (Some r) = Err r
+deck_if_named t None = Ok (deck_of t)
 
 -- the fault at the card behind the last
 abbrev pub why_unended : SeenView → Why
 why_unended s = if length s.tasks == 0 then NoJobStep else NoEnd
 
 -- the deck of cards that break no rule of form, where that many lines are there
-abbrev pub resolved : ℕ → ScanView → Result DeckView Refusal
-resolved lines t =
-    if t.seen.ended then named t (first_nameless t.seen [] t.reads) else Err (refusal (lines + 1) (why_unended t.seen))
+abbrev pub deck_if_ended : ℕ → ScanView → Result DeckView Refusal
+deck_if_ended lines t =
+    if t.seen.ended then deck_if_named t (first_nameless t.seen [] t.reads) else Err (refusal (lines + 1) (why_unended t.seen))
 
 -- a fault of form comes before that of cutting, which stands behind all cards that were cut
-abbrev pub judged : ℕ → Option CutFault → Result ScanView Refusal → Result DeckView Refusal
-judged lines fault (Err r) = Err r
-judged lines (Some fault) (Ok t) = Err (refusal fault.card (why_of_cut fault.why))
-judged lines None (Ok t) = resolved lines t
+abbrev pub deck_or_fault : ℕ → Option CutFault → Result ScanView Refusal → Result DeckView Refusal
+deck_or_fault lines fault (Err r) = Err r
+deck_or_fault lines (Some fault) (Ok t) = Err (refusal fault.card (why_of_cut fault.why))
+deck_or_fault lines None (Ok t) = deck_if_ended lines t
 
 -- the deck that the cards before the fault of cutting spell, or the first fault
 abbrev pub read_cards : List CardText → ℕ → Option CutFault → Result DeckView Refusal
-read_cards cards lines fault = judged lines fault (scan [] fresh cards)
+read_cards cards lines fault = deck_or_fault lines fault (scan [] nothing_seen cards)
 
 -- A call that answers so gives that: the value or the refusal, but for want of memory.
 abbrev pub Gives : {A B : Type 0} → (A → B → Type 0) → Result A DeckFault → Result B Refusal → Type 0

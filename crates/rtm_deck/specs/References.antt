@@ -1,11 +1,11 @@
 -- What the operands of a card name, and the first that isn't there.
 use Rattle.std.specs.Prelude.{ℕ, Bool, true, List, [], ◌∷◌, Option, Some, None, if◌then◌else◌}
-use Rattle.rtm_operands.specs.declared.value.Value.{Value}
-use Rattle.rtm_operands.specs.declared.value.Value.TheVariants.{Name}
-use Rattle.rtm_items.specs.declared.why.Why.{Why}
-use Rattle.rtm_items.specs.declared.why.Why.TheVariants.{UnknownName, UnknownLabel}
-use Rattle.rtm_items.specs.declared.form.CardForm.{CardForm}
-use Rattle.rtm_items.specs.declared.form.CardForm.TheVariants as forms
+use Rattle.rtm_deck_operands.specs.declared.value.Value.{Value}
+use Rattle.rtm_deck_operands.specs.declared.value.Value.TheVariants.{Name}
+use Rattle.rtm_deck_items.specs.declared.why.Why.{Why}
+use Rattle.rtm_deck_items.specs.declared.why.Why.TheVariants.{UnknownName, UnknownLabel}
+use Rattle.rtm_deck_items.specs.declared.form.CardForm.{CardForm}
+use Rattle.rtm_deck_items.specs.declared.form.CardForm.TheVariants as forms
 use Rattle.rtm_deck.specs.declared.reference.Reference.{Reference}
 use Rattle.rtm_deck.specs.declared.reference.Reference.TheVariants.{AProgram, ATask, AnSrb, OwnLabel, AnyLabel, Nothing}
 use Rattle.rtm_deck.specs.View.{ReadView, SeenView, Refusal}

@@ -3,23 +3,23 @@ use Rattle.std.specs.Prelude.{◌≡◌, ℕ, ◌+◌, Bool, true, false, not, �
 use Rattle.std.specs.List.{list_any}
 use Rattle.std.specs.Option.{option_map_or, option_or}
 use Rattle.std.specs.Prelude.{option_map, option_and_then, is_some}
-use Rattle.rtm_operands.specs.declared.value.Value.{Value}
-use Rattle.rtm_operands.specs.declared.slot.Slot.{Slot}
-use Rattle.rtm_operands.specs.Reading.{read_slots, name_in}
+use Rattle.rtm_deck_operands.specs.declared.value.Value.{Value}
+use Rattle.rtm_deck_operands.specs.declared.slot.Slot.{Slot}
+use Rattle.rtm_deck_operands.specs.Reading.{read_slots, name_in}
 use Rattle.rtm_cards.specs.Cards.{CardText}
-use Rattle.rtm_items.specs.declared.why.Why.{Why}
-use Rattle.rtm_items.specs.declared.why.Why.TheVariants.{BadCard, UnknownOp, BadOperand, DuplicateName, WrongPlace, NoJobStep, OverLimit}
-use Rattle.rtm_items.specs.declared.form.CardForm.{CardForm}
-use Rattle.rtm_items.specs.Forms.{operation_of, slots_of, needs_some, all_forms, form_named}
-use Rattle.rtm_items.specs.Faults.{differ}
+use Rattle.rtm_deck_items.specs.declared.why.Why.{Why}
+use Rattle.rtm_deck_items.specs.declared.why.Why.TheVariants.{BadCard, UnknownOp, BadOperand, DuplicateName, WrongPlace, NoJobStep, OverLimit}
+use Rattle.rtm_deck_items.specs.declared.form.CardForm.{CardForm}
+use Rattle.rtm_deck_items.specs.Forms.{operation_of, slots_of, needs_some, all_forms, form_named}
+use Rattle.rtm_deck_items.specs.Faults.{differ}
 use Rattle.rtm_deck.specs.declared.role.Role.{Role}
 use Rattle.rtm_deck.specs.declared.role.Role.TheVariants.{Region, Program, ProgramEnd, Task, Srb, Commands, Command, End, Line}
 use Rattle.rtm_deck.specs.Roles.{role_of, is_inside_role, is_misnamed_role}
 use Rattle.rtm_deck.specs.View.{ReadView, SeenView}
 
 -- before the first card
-abbrev pub fresh : SeenView
-fresh = record { started = false; inside = false; oper = false; ended = false; programs = []; units = []; tasks = []; srbs = []; commands = 0; own = []; labels = [] }
+abbrev pub nothing_seen : SeenView
+nothing_seen = record { started = false; inside = false; oper = false; ended = false; programs = []; units = []; tasks = []; srbs = []; commands = 0; own = []; labels = [] }
 
 -- the name is among these
 abbrev pub has_name : List (List ℕ) → List ℕ → Bool
@@ -101,39 +101,39 @@ pub record SaidView : Type 0 where
   pub values : List (Option Value)
 
 -- the values, where some value is given or none need be
-abbrev pub enough : Bool → List (Option Value) → Option (List (Option Value))
-enough wanted values = if wanted && not (list_any is_some values) then None else Some values
+abbrev pub values_if_enough : Bool → List (Option Value) → Option (List (Option Value))
+values_if_enough wanted values = if wanted && not (list_any is_some values) then None else Some values
 
 -- the values of an operation's operands; without slots all is a remark
 abbrev pub read_by : List Slot → Bool → List (List ℕ) → Option (List (Option Value))
-read_by [] wanted operands = enough wanted []
-read_by (slot ∷ slots) wanted operands = option_and_then (enough wanted) (read_slots (slot ∷ slots) operands)
+read_by [] wanted operands = values_if_enough wanted []
+read_by (slot ∷ slots) wanted operands = option_and_then (values_if_enough wanted) (read_slots (slot ∷ slots) operands)
 
 -- the values, where they were read
-abbrev pub given : Bool → List (Option Value) → Option (List (Option Value))
-given true values = Some values
-given false values = None
+abbrev pub values_if_read : Bool → List (Option Value) → Option (List (Option Value))
+values_if_read true values = Some values
+values_if_read false values = None
 
-abbrev pub said : CardForm → Option (List (Option Value)) → Option SaidView
-said form values = option_map (λ v. record { form = form; values = v }) values
+abbrev pub reading_of : CardForm → Option (List (Option Value)) → Option SaidView
+reading_of form values = option_map (λ v. record { form = form; values = v }) values
 
 -- what the operands say by that form, if the card has its operation
-abbrev pub said_as : List ℕ → List (List ℕ) → CardForm → Option SaidView
-said_as op operands form = if bytes_eq (operation_of form) op then said form (read_by (slots_of form) (needs_some form) operands) else None
+abbrev pub reading_as : List ℕ → List (List ℕ) → CardForm → Option SaidView
+reading_as op operands form = if bytes_eq (operation_of form) op then reading_of form (read_by (slots_of form) (needs_some form) operands) else None
 
 -- what they say by the first of these forms that reads them
-abbrev pub said_by : List ℕ → List (List ℕ) → List CardForm → Option SaidView
-said_by op operands [] = None
-said_by op operands (form ∷ forms) = option_or (said_as op operands form) (said_by op operands forms)
+abbrev pub reading_by : List ℕ → List (List ℕ) → List CardForm → Option SaidView
+reading_by op operands [] = None
+reading_by op operands (form ∷ forms) = option_or (reading_as op operands form) (reading_by op operands forms)
 
 -- what is said by a form and its values
-abbrev pub said_in : Option CardForm → List (Option Value) → Option SaidView
-said_in None values = None
-said_in (Some form) values = Some (record { form = form; values = values })
+abbrev pub reading_in : Option CardForm → List (Option Value) → Option SaidView
+reading_in None values = None
+reading_in (Some form) values = Some (record { form = form; values = values })
 
 -- By these forms a card of that operation says what it says by all forms.
 abbrev pub AreEnough : List ℕ → List CardForm → Type 0
-AreEnough op forms = (operands : List (List ℕ)) → said_by op operands forms ≡ said_by op operands all_forms
+AreEnough op forms = (operands : List (List ℕ)) → reading_by op operands forms ≡ reading_by op operands all_forms
 
 -- a card of that number and name that breaks no rule, as it is read
 abbrev pub read_with : ℕ → Option (List ℕ) → Option SaidView → Option Why → Result ReadView Why
@@ -144,8 +144,8 @@ read_with number name (Some said) None = Ok (record { number = number; name = na
 abbrev pub read_known : SeenView → CardText → Option CardForm → Result ReadView Why
 read_known s c None = Err UnknownOp
 read_known s c (Some form) =
-    read_with c.number (name_in c.name) (said_by c.op c.operands all_forms)
-    (broken_rule s (role_of form) (name_in c.name) (is_some (said_by c.op c.operands all_forms)))
+    read_with c.number (name_in c.name) (reading_by c.op c.operands all_forms)
+    (broken_rule s (role_of form) (name_in c.name) (is_some (reading_by c.op c.operands all_forms)))
 
 -- the card as it is read behind the others, or the first rule that it breaks
 abbrev pub read_card : SeenView → CardText → Result ReadView Why

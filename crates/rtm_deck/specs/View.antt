@@ -1,8 +1,8 @@
 -- What contracts see of a card that was read.
 use Rattle.std.specs.Prelude.{ℕ, Bool, List, Option}
-use Rattle.rtm_operands.specs.declared.value.Value.{Value}
-use Rattle.rtm_items.specs.declared.form.CardForm.{CardForm}
-use Rattle.rtm_items.specs.declared.why.Why.{Why}
+use Rattle.rtm_deck_operands.specs.declared.value.Value.{Value}
+use Rattle.rtm_deck_items.specs.declared.form.CardForm.{CardForm}
+use Rattle.rtm_deck_items.specs.declared.why.Why.{Why}
 
 -- a card that was read: its number, its name with its padding, its form and the values of its operands
 pub record ReadView : Type 0 where

@@ -1,23 +1,25 @@
 //! Making the deck of cards whose names are all there.
 
 ghost use Rattle.std.specs.Prelude.{◌≡◌, ◌≤◌, length, IfOk, unwrap_or};
-ghost use Rattle.rtm_items.specs.View.{DeckView};
+ghost use Rattle.rtm_deck_items.specs.View.{DeckView};
 ghost use Rattle.rtm_deck.specs.View.{ScanView};
 ghost use Rattle.rtm_deck.specs.Building.{line_of, line_count, lines_from, program_of, programs_from, unit_of, unit_in, units_from, command_in, commands_from, limit_from, deck_of};
 ghost use Rattle.rtm_deck.specs.Roles.{role_of};
 ghost use Rattle.rtm_deck.specs.Operations.{no_name};
-ghost use Rattle.rtm_deck.specs.Reader.{scanned};
+ghost use Rattle.rtm_deck.specs.Reader.{scan_of};
 
 use crate::card::Read;
-use crate::operation::{NO_NAME, flag_at, named_at, named_in, number_at, op_of, value_at};
+use crate::operation::{
+    NO_NAME, flag_at, named_number_at, named_number_in, number_at, op_of, value_at,
+};
 use crate::role::{Role, role_of};
 use crate::seen::Seen;
 use rtm_codes::NoMemory;
-use rtm_items::{Command, Line, Name, Program, Unit, UnitKind};
+use rtm_deck_items::{Command, Line, Name, Program, Unit, UnitKind};
 use std::alloc::Global;
 use std::marker::Model;
 
-/// How many entries a history may have where no REGION card says it.
+// How many entries a history may have where no REGION card says it.
 const DEFAULT_LIMIT: u32 = 20_000;
 
 /// The parts of a deck.
@@ -30,7 +32,7 @@ pub(crate) struct Parts {
 }
 
 impl Model for Parts {
-    ghost use Rattle.rtm_items.specs.View.{DeckView};
+    ghost use Rattle.rtm_deck_items.specs.View.{DeckView};
 
     ghost Value = { DeckView };
 
@@ -51,7 +53,7 @@ fn line_of(seen: &Seen, read: &Read) -> Line
     }
 }
 
-/// How many cards stand before the first that is none of a program.
+// How many cards stand before the first that is none of a program.
 fn line_count(reads: &[Read]) -> usize
     ensures { result ≡ line_count reads.now }
 {
@@ -63,7 +65,7 @@ fn line_count(reads: &[Read]) -> usize
     reads.len()
 }
 
-/// The cards of a program, up to the first that is none.
+// The cards of a program, up to the first that is none.
 fn lines_of(alloc: Global, seen: &Seen, reads: &[Read]) -> Result<Vec<Line>, NoMemory>
     ensures { IfOk result (λ lines. lines.items ≡ lines_from seen.now reads.now) }
 {
@@ -77,7 +79,7 @@ fn lines_of(alloc: Global, seen: &Seen, reads: &[Read]) -> Result<Vec<Line>, NoM
     Ok(lines)
 }
 
-/// The name of a card that has to have one.
+// The name of a card that has to have one.
 fn name_of(read: &Read) -> Name
     ensures { result ≡ unwrap_or read.now.name no_name }
 {
@@ -97,7 +99,7 @@ fn program_of(alloc: Global, seen: &Seen, read: &Read, others: &[Read]) -> Resul
     })
 }
 
-/// The programs, in the order of their cards.
+// The programs, in the order of their cards.
 fn programs_of(alloc: Global, seen: &Seen, reads: &[Read]) -> Result<Vec<Program>, NoMemory>
     ensures { IfOk result (λ programs. programs.items ≡ programs_from seen.now reads.now) }
 {
@@ -116,19 +118,19 @@ fn unit_of(seen: &Seen, read: &Read, kind: UnitKind, related: Option<u16>) -> Un
     Unit {
         name: name_of(read),
         kind,
-        prog: named_at(&seen.programs, &read.values, 0),
+        prog: named_number_at(&seen.programs, &read.values, 0),
         related,
     }
 }
 
-/// The unit of work that a card says.
+// The unit of work that a card says.
 fn unit_in(seen: &Seen, read: &Read) -> Option<Unit>
     ensures { result ≡ unit_in seen.now (role_of read.now.form) read.now }
 {
     match role_of(read.form) {
         Role::Task => Some(unit_of(seen, read, UnitKind::Task, None)),
         Role::Srb => {
-            let related = named_in(&seen.units, value_at(&read.values, 1));
+            let related = named_number_in(&seen.units, value_at(&read.values, 1));
             Some(unit_of(seen, read, UnitKind::Srb, related))
         }
         _ => None,
@@ -147,13 +149,13 @@ fn units_of(alloc: Global, seen: &Seen, reads: &[Read]) -> Result<Vec<Unit>, NoM
     Ok(units)
 }
 
-/// The command that a card says.
+// The command that a card says.
 fn command_in(seen: &Seen, read: &Read) -> Option<Command>
     ensures { result ≡ command_in seen.now (role_of read.now.form) read.now }
 {
     match role_of(read.form) {
         Role::Command => Some(Command {
-            target: named_at(&seen.units, &read.values, 0),
+            target: named_number_at(&seen.units, &read.values, 0),
             at: number_at(&read.values, 1),
             dump: flag_at(&read.values, 2),
         }),
@@ -173,7 +175,7 @@ fn commands_of(alloc: Global, seen: &Seen, reads: &[Read]) -> Result<Vec<Command
     Ok(commands)
 }
 
-/// The limit of entries: REGION's, or the default.
+// The limit of entries: REGION's, or the default.
 fn limit_of(reads: &[Read]) -> u32
     ensures { result ≡ limit_from reads.now }
 {
@@ -187,7 +189,7 @@ fn limit_of(reads: &[Read]) -> u32
 
 /// The parts of the deck that the cards say.
 pub(crate) fn build(alloc: Global, seen: &Seen, reads: &[Read]) -> Result<Parts, NoMemory>
-    ensures { IfOk result (λ parts. parts ≡ deck_of (scanned reads.now seen.now)) }
+    ensures { IfOk result (λ parts. parts ≡ deck_of (scan_of reads.now seen.now)) }
 {
     let programs = programs_of(alloc, seen, reads)?;
     let units = units_of(alloc, seen, reads)?;

@@ -4,18 +4,18 @@ ghost use Rattle.std.specs.Prelude.{◌≡◌, ◌≤◌, ℕ, List, length, map
 ghost use Rattle.std.specs.List.{AllByRecursion, list_any};
 ghost use Rattle.rtm_cards.specs.Span.{IsWithin, text_of};
 ghost use Rattle.rtm_cards.specs.Cards.{card_text, HasSpansIn};
-ghost use Rattle.rtm_items.specs.Forms.{form_named, operation_of, needs_some};
-ghost use Rattle.rtm_operands.specs.declared.value.Value.{Value};
-ghost use Rattle.rtm_operands.specs.Slot.{IsWellMade};
+ghost use Rattle.rtm_deck_items.specs.Forms.{form_named, operation_of, needs_some};
+ghost use Rattle.rtm_deck_operands.specs.declared.value.Value.{Value};
+ghost use Rattle.rtm_deck_operands.specs.Slot.{IsWellMade};
 ghost use Rattle.rtm_deck.specs.Roles.{role_of};
-ghost use Rattle.rtm_deck.specs.Seen.{given, read_by, said, said_as, said_in, said_by, AreEnough, read_in, read_card, read_with, read_known};
+ghost use Rattle.rtm_deck.specs.Seen.{values_if_read, read_by, reading_of, reading_as, reading_in, reading_by, AreEnough, read_in, read_card, read_with, read_known};
 
 use crate::role::{Role, role_of};
 use crate::seen::Seen;
 use arrayvec::ArrayVec;
 use rtm_cards::{Card, Span};
-use rtm_items::{CardForm, Name, Why, all_forms};
-use rtm_operands::{Slot, Value, Values, name_of, read_operands};
+use rtm_deck_items::{CardForm, Name, Why, all_forms};
+use rtm_deck_operands::{Slot, Value, Values, name_of, read_operands};
 use std::marker::Model;
 
 /// A card that was read.
@@ -50,7 +50,7 @@ static CALLRTM: [CardForm; 2] = [CardForm::Abterm, CardForm::Memterm];
 
 static RESMGR: [CardForm; 2] = [CardForm::MgrAdd, CardForm::MgrDelete];
 
-/// The first form of that operation.
+// The first form of that operation.
 fn form_named(op: &[u8]) -> Option<CardForm>
     ensures { result ≡ form_named op.now }
 {
@@ -60,22 +60,22 @@ fn form_named(op: &[u8]) -> Option<CardForm>
         .find(|form| form.operation() == op)
 }
 
-/// Whether a card of that form has to give some value though no operand is needed.
+// Whether a card of that form has to give some value though no operand is needed.
 fn needs_some(form: CardForm) -> bool
     ensures { result ≡ needs_some form }
 {
     matches!(form, CardForm::SetRp)
 }
 
-/// Whether some value is given.
+// Whether some value is given.
 fn gives_some(values: &[Option<Value>]) -> bool
     ensures { result ≡ list_any is_some values.now }
 {
     values.iter().any(|value| value.is_some())
 }
 
-/// Puts the values of a card's operands in place of those that are there, and says whether there are any; without slots
-/// all that follows is a remark.
+// Puts the values of a card's operands in place of those that are there, and says whether there are any; without slots
+// all that follows is a remark.
 fn read_by(
     bytes: &[u8],
     operands: &[Span],
@@ -85,7 +85,7 @@ fn read_by(
 ) -> bool
     requires within { AllByRecursion (IsWithin bytes.now) operands.now }
     requires table { IsWellMade slots.now }
-    ensures { given result values.new.items ≡ read_by slots.now wanted (map (text_of bytes.now) operands.now) }
+    ensures { values_if_read result values.new.items ≡ read_by slots.now wanted (map (text_of bytes.now) operands.now) }
 {
     if slots.is_empty() {
         *values = ArrayVec::new();
@@ -100,15 +100,15 @@ fn read_by(
     }
 }
 
-/// The same by the slots of that form, if the card has its operation.
+// The same by the slots of that form, if the card has its operation.
 fn read_as(bytes: &[u8], op: &[u8], operands: &[Span], form: CardForm, values: &mut Values) -> bool
     requires { AllByRecursion (IsWithin bytes.now) operands.now }
-    ensures { said form (given result values.new.items) ≡ said_as op.now (map (text_of bytes.now) operands.now) form }
+    ensures { reading_of form (values_if_read result values.new.items) ≡ reading_as op.now (map (text_of bytes.now) operands.now) form }
 {
     form.operation() == op && read_by(bytes, operands, form.slots(), needs_some(form), values)
 }
 
-/// The forms of that operation, in their order; all forms where none has it.
+// The forms of that operation, in their order; all forms where none has it.
 fn forms_of(op: &[u8]) -> &'static [CardForm]
     ensures { AreEnough op.now result.now }
 {
@@ -147,7 +147,7 @@ fn forms_of(op: &[u8]) -> &'static [CardForm]
     }
 }
 
-/// The first form that reads the operands, with the values that it reads.
+// The first form that reads the operands, with the values that it reads.
 fn first_reading(
     bytes: &[u8],
     op: &[u8],
@@ -156,7 +156,7 @@ fn first_reading(
     values: &mut Values,
 ) -> Option<CardForm>
     requires { AllByRecursion (IsWithin bytes.now) operands.now }
-    ensures { said_in result values.new.items ≡ said_by op.now (map (text_of bytes.now) operands.now) forms.now }
+    ensures { reading_in result values.new.items ≡ reading_by op.now (map (text_of bytes.now) operands.now) forms.now }
 {
     for form in forms {
         if read_as(bytes, op, operands, *form, values) {
@@ -166,8 +166,8 @@ fn first_reading(
     None
 }
 
-/// The role of the cards of that operation. A form of it that is known already saves the search for the first: all have
-/// one role.
+// The role of the cards of that operation. A form of it that is known already saves the search for the first: all have
+// one role.
 fn role_named(op: &[u8], known: Option<CardForm>) -> Option<Role>
     requires { IfSome known (λ form. operation_of form ≡ op.now) }
     ensures { result ≡ option_map role_of (form_named op.now) }
@@ -181,14 +181,14 @@ fn role_named(op: &[u8], known: Option<CardForm>) -> Option<Role>
     }
 }
 
-/// The name and the form of a card that breaks no rule.
+// The name and the form of a card that breaks no rule.
 fn read_with(
     name: Option<Name>,
     form: Option<CardForm>,
     broken: Option<Why>,
 ) -> Result<(Option<Name>, CardForm), Why>
     ensures { (number : ℕ) (values : List (Option Value)) →
-        read_in number result values ≡ read_with number name (said_in form values) broken }
+        read_in number result values ≡ read_with number name (reading_in form values) broken }
 {
     if let Some(why) = broken {
         return Err(why);

@@ -5,7 +5,7 @@ ghost use Rattle.rtm_deck.specs.declared.fault.DeckFault.TheVariants.{Memory};
 
 use rtm_cards::CardFault;
 use rtm_codes::NoMemory;
-use rtm_items::Why;
+use rtm_deck_items::Why;
 use std::alloc::{AllocError, AllocFailed};
 
 /// Why no deck was read.

@@ -12,11 +12,11 @@ use crate::role::role_of;
 use crate::seen::{Seen, put_name};
 use indexmap::IndexSet;
 use rtm_codes::NoMemory;
-use rtm_items::{Name, Why};
-use rtm_operands::Value;
+use rtm_deck_items::{Name, Why};
+use rtm_deck_operands::Value;
 use std::alloc::Global;
 
-/// Whether the name is there, with these labels of the own program.
+// Whether the name is there, with these labels of the own program.
 fn finds(seen: &Seen, own: &IndexSet<Name>, reference: Reference, name: &Name) -> bool
     ensures { result ≡ finds seen.now own.now.keys reference name.now }
 {
@@ -53,7 +53,7 @@ fn finds_value(
     }
 }
 
-/// The fault of the first of these values that names what isn't there. At most two operands name something.
+// The fault of the first of these values that names what isn't there. At most two operands name something.
 fn first_unfound(
     seen: &Seen,
     own: &IndexSet<Name>,
@@ -75,7 +75,7 @@ fn first_unfound(
     }
 }
 
-/// Puts the labels of the cards up to the first that is none of a program behind the others.
+// Puts the labels of the cards up to the first that is none of a program behind the others.
 fn put_labels(labels: &mut IndexSet<Name>, reads: &[Read]) -> Result<(), NoMemory>
     ensures { OnOk result (labels.new.keys ≡ labels_onto labels.old.keys reads.now) }
 {
@@ -88,7 +88,7 @@ fn put_labels(labels: &mut IndexSet<Name>, reads: &[Read]) -> Result<(), NoMemor
     Ok(())
 }
 
-/// Behind PROG the labels of the cards that follow; else they stay.
+// Behind PROG the labels of the cards that follow; else they stay.
 fn put_own_labels(own: &mut IndexSet<Name>, read: &Read, others: &[Read]) -> Result<(), NoMemory>
     ensures { OnOk result (own.new.keys ≡ own_labels own.old.keys read.now others.now) }
 {

@@ -1,11 +1,11 @@
 //! What the definitions of decks and faults come to, with the reader in hand.
 
 ghost use Rattle.std.specs.Prelude.{◌≡◌, ◌⊎◌, ◌↔◌, ℕ, List};
-ghost use Rattle.rtm_items.specs.declared.why.Why.{Why};
-ghost use Rattle.rtm_items.specs.View.{DeckView};
-ghost use Rattle.rtm_items.specs.Spelling.{DeckText};
-ghost use Rattle.rtm_items.specs.Faults.{IsFirstFault};
-ghost use Rattle.rtm_items.specs.Canon.{canon};
+ghost use Rattle.rtm_deck_items.specs.declared.why.Why.{Why};
+ghost use Rattle.rtm_deck_items.specs.View.{DeckView};
+ghost use Rattle.rtm_deck_items.specs.Spelling.{DeckText};
+ghost use Rattle.rtm_deck_items.specs.Faults.{IsFirstFault};
+ghost use Rattle.rtm_deck_items.specs.Canon.{canon};
 
 /// Each input spells exactly one deck or has exactly one first fault, and never both.
 pub fn each_input_is_a_deck_or_has_a_fault()

@@ -1,13 +1,13 @@
 //! What a card of a program does.
 
 ghost use Rattle.std.specs.Prelude.{◌≡◌, ◌<◌, ◌^◌, option_map, IfSome, position, bytes_eq, unwrap_or};
-ghost use Rattle.rtm_deck.specs.Operations.{value_at, flag_in, number_in, reason_in, code_in, name_in, three_in, class_in, flag_at, number_at, byte_at, code_at, class_at, reason_at, label_at, index_in, named_in, named_at, narrow, setrp_of, plain_op, routine_op, unit_op, op_of, no_name};
+ghost use Rattle.rtm_deck.specs.Operations.{value_at, flag_in, number_in, reason_in, code_in, name_in, three_in, class_in, flag_at, number_at, byte_at, code_at, class_at, reason_at, label_at, index_in, named_number_in, named_number_at, narrow, setrp_of, plain_op, routine_op, unit_op, op_of, no_name};
 
 use crate::seen::Seen;
 use indexmap::IndexSet;
 use rtm_codes::Code;
-use rtm_items::{CardForm, Name, Op, Res, Setrp, Three};
-use rtm_operands::Value;
+use rtm_deck_items::{CardForm, Name, Op, Res, Setrp, Three};
+use rtm_deck_operands::Value;
 
 /// Stands where a name has to stand and none does, which no card that was read leaves so.
 pub(crate) const NO_NAME: Name = Name(*b"@       ");
@@ -106,7 +106,7 @@ pub(crate) fn number_at(values: &[Option<Value>], i: usize) -> u32
     number_in(value_at(values, i)).unwrap_or(0)
 }
 
-/// A number of at most 255, else 0.
+// A number of at most 255, else 0.
 fn narrow(number: u32) -> u8
     ensures { result ≡ narrow number }
 {
@@ -146,7 +146,7 @@ fn label_at(values: &[Option<Value>], i: usize) -> Name
     }
 }
 
-/// The number of a name among names.
+// The number of a name among names.
 fn index_in(names: &IndexSet<Name>, name: Name) -> u16
     ensures { result ≡ index_in names.now.keys name }
 {
@@ -155,8 +155,8 @@ fn index_in(names: &IndexSet<Name>, name: Name) -> u16
 }
 
 /// The number of the program or unit that the value names, if there is one.
-pub(crate) fn named_in(names: &IndexSet<Name>, value: Option<Value>) -> Option<u16>
-    ensures { result ≡ named_in names.now.keys value }
+pub(crate) fn named_number_in(names: &IndexSet<Name>, value: Option<Value>) -> Option<u16>
+    ensures { result ≡ named_number_in names.now.keys value }
 {
     match name_in(value) {
         None => None,
@@ -164,10 +164,10 @@ pub(crate) fn named_in(names: &IndexSet<Name>, value: Option<Value>) -> Option<u
     }
 }
 
-pub(crate) fn named_at(names: &IndexSet<Name>, values: &[Option<Value>], i: usize) -> u16
-    ensures { result ≡ named_at names.now.keys values.now i }
+pub(crate) fn named_number_at(names: &IndexSet<Name>, values: &[Option<Value>], i: usize) -> u16
+    ensures { result ≡ named_number_at names.now.keys values.now i }
 {
-    named_in(names, value_at(values, i)).unwrap_or(0)
+    named_number_in(names, value_at(values, i)).unwrap_or(0)
 }
 
 fn rc_in(value: Option<Value>) -> Option<u8>
@@ -179,7 +179,7 @@ fn rc_in(value: Option<Value>) -> Option<u8>
     }
 }
 
-/// The options of a SETRP card.
+// The options of a SETRP card.
 fn setrp_of(values: &[Option<Value>]) -> Setrp
     ensures { result ≡ setrp_of values.now }
 {
@@ -195,7 +195,7 @@ fn setrp_of(values: &[Option<Value>]) -> Setrp
     }
 }
 
-/// What a card does by itself, or with a program as its next; NOP for other cards.
+// What a card does by itself, or with a program as its next; NOP for other cards.
 fn plain_op(seen: &Seen, form: CardForm, values: &[Option<Value>]) -> Op
     ensures { result ≡ plain_op seen.now form values.now }
 {
@@ -210,10 +210,10 @@ fn plain_op(seen: &Seen, form: CardForm, values: &[Option<Value>]) -> Op
             id: number_at(values, 1),
         },
         CardForm::Link => Op::Link {
-            prog: named_at(&seen.programs, values, 0),
+            prog: named_number_at(&seen.programs, values, 0),
         },
         CardForm::Xctl => Op::Xctl {
-            prog: named_at(&seen.programs, values, 0),
+            prog: named_number_at(&seen.programs, values, 0),
         },
         CardForm::Return => Op::Return,
         CardForm::Abend => Op::Abend {
@@ -233,65 +233,65 @@ fn plain_op(seen: &Seen, form: CardForm, values: &[Option<Value>]) -> Op
     }
 }
 
-/// What a card does with a recovery routine or a resource manager; NOP for other cards.
+// What a card does with a recovery routine or a resource manager; NOP for other cards.
 fn routine_op(seen: &Seen, form: CardForm, values: &[Option<Value>]) -> Op
     ensures { result ≡ routine_op seen.now form values.now }
 {
     match form {
         CardForm::EstaexCt => Op::EstaexCt {
-            prog: named_at(&seen.programs, values, 1),
+            prog: named_number_at(&seen.programs, values, 1),
             term: flag_at(values, 2),
             cancel: flag_at(values, 3),
             xctl: flag_at(values, 4),
         },
         CardForm::EstaexOv => Op::EstaexOv {
-            prog: named_at(&seen.programs, values, 1),
+            prog: named_number_at(&seen.programs, values, 1),
             term: flag_at(values, 2),
             cancel: flag_at(values, 3),
             xctl: flag_at(values, 4),
         },
         CardForm::EstaexZero => Op::EstaexZero,
         CardForm::FrrAdd => Op::FrrAdd {
-            prog: named_at(&seen.programs, values, 1),
+            prog: named_number_at(&seen.programs, values, 1),
         },
         CardForm::FrrDelete => Op::FrrDelete,
         CardForm::FrrReplace => Op::FrrReplace {
-            prog: named_at(&seen.programs, values, 1),
+            prog: named_number_at(&seen.programs, values, 1),
         },
         CardForm::FrrPurge => Op::FrrPurge,
         CardForm::MgrAdd => Op::MgrAdd {
-            prog: named_at(&seen.programs, values, 1),
+            prog: named_number_at(&seen.programs, values, 1),
             space: flag_at(values, 2),
         },
         CardForm::MgrDelete => Op::MgrDelete {
-            prog: named_at(&seen.programs, values, 1),
+            prog: named_number_at(&seen.programs, values, 1),
             space: flag_at(values, 2),
         },
         _ => Op::Nop,
     }
 }
 
-/// What a card does to a unit of work, or by a label; NOP for other cards.
+// What a card does to a unit of work, or by a label; NOP for other cards.
 fn unit_op(seen: &Seen, form: CardForm, values: &[Option<Value>]) -> Op
     ensures { result ≡ unit_op seen.now form values.now }
 {
     match form {
         CardForm::Attachx => Op::Attachx {
-            unit: named_at(&seen.units, values, 0),
+            unit: named_number_at(&seen.units, values, 0),
             estai: None,
             term: false,
         },
         CardForm::AttachxEstai => Op::Attachx {
-            unit: named_at(&seen.units, values, 0),
-            estai: Some(named_at(&seen.programs, values, 1)),
+            unit: named_number_at(&seen.units, values, 0),
+            estai: Some(named_number_at(&seen.programs, values, 1)),
             term: flag_at(values, 2),
         },
         CardForm::Detach => Op::Detach {
-            unit: named_at(&seen.units, values, 0),
+            unit: named_number_at(&seen.units, values, 0),
             stae: flag_at(values, 1),
         },
         CardForm::Abterm => Op::Abterm {
-            unit: named_at(&seen.units, values, 1),
+            unit: named_number_at(&seen.units, values, 1),
             code: code_at(values, 2),
             reason: reason_at(values, 3),
             dump: flag_at(values, 4),
@@ -301,10 +301,10 @@ fn unit_op(seen: &Seen, form: CardForm, values: &[Option<Value>]) -> Op
             code: code_at(values, 1),
         },
         CardForm::Schedule => Op::Schedule {
-            unit: named_at(&seen.units, values, 0),
+            unit: named_number_at(&seen.units, values, 0),
         },
         CardForm::WaitTask => Op::WaitTask {
-            unit: named_at(&seen.units, values, 0),
+            unit: named_number_at(&seen.units, values, 0),
         },
         CardForm::Branch => Op::Branch {
             label: label_at(values, 0),

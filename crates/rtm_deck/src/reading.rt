@@ -3,15 +3,15 @@
 ghost use Rattle.std.specs.Prelude.{◌≡◌, ◌<◌, ◌^◌, [], ℕ, Option, Some, None, Result, Ok, Err, map, length, IfOk, IfErr};
 ghost use Rattle.std.specs.List.{AllByRecursion};
 ghost use Rattle.rtm_cards.specs.Cards.{card_text, HasSpansIn, IsCardOf};
-ghost use Rattle.rtm_items.specs.Spelling.{DeckText};
-ghost use Rattle.rtm_items.specs.declared.why.Why.{Why};
-ghost use Rattle.rtm_items.specs.Faults.{IsFirstFault, why_of_cut};
-ghost use Rattle.rtm_items.specs.View.{DeckView};
+ghost use Rattle.rtm_deck_items.specs.Spelling.{DeckText};
+ghost use Rattle.rtm_deck_items.specs.declared.why.Why.{Why};
+ghost use Rattle.rtm_deck_items.specs.Faults.{IsFirstFault, why_of_cut};
+ghost use Rattle.rtm_deck_items.specs.View.{DeckView};
 ghost use Rattle.rtm_deck.specs.Refusal.{IsRefusalOf, IsThatDeck, IsThatRefusal};
-ghost use Rattle.rtm_deck.specs.Seen.{fresh};
+ghost use Rattle.rtm_deck.specs.Seen.{nothing_seen};
 ghost use Rattle.rtm_deck.specs.References.{first_nameless};
 ghost use Rattle.rtm_deck.specs.Building.{deck_of};
-ghost use Rattle.rtm_deck.specs.Reader.{Gives, scan, why_unended, named, resolved, judged, read_cards};
+ghost use Rattle.rtm_deck.specs.Reader.{Gives, scan, why_unended, deck_if_named, deck_if_ended, deck_or_fault, read_cards};
 
 use crate::build::{Parts, build};
 use crate::card::{Read, read_card};
@@ -21,11 +21,11 @@ use crate::role::role_of;
 use crate::seen::Seen;
 use arrayvec::ArrayVec;
 use rtm_cards::{Card, Cut, CutFault, CutWhy, cut_cards};
-use rtm_items::{Deck, Why};
+use rtm_deck_items::{Deck, Why};
 use std::alloc::Global;
 use std::marker::Model;
 
-/// The cards that were read, and what was seen on them.
+// The cards that were read, and what was seen on them.
 #[derive(Drop)]
 struct Scan {
     reads: Vec<Read>,
@@ -40,11 +40,11 @@ impl Model for Scan {
     ghost view = { λ a. record { reads = a.reads.items; seen = a.seen } };
 }
 
-/// Reads the cards one after the other, up to the first that breaks a rule of form.
+// Reads the cards one after the other, up to the first that breaks a rule of form.
 fn scan_cards(alloc: Global, bytes: &[u8], cards: &[Card]) -> Result<Scan, DeckFault>
     requires spans { AllByRecursion (HasSpansIn bytes.now) cards.now }
     requires few { length cards.now < 2 ^ 30 }
-    ensures { Gives (λ a b. a ≡ b) result (scan [] fresh (map (card_text bytes.now) cards.now)) }
+    ensures { Gives (λ a b. a ≡ b) result (scan [] nothing_seen (map (card_text bytes.now) cards.now)) }
 {
     let mut reads = Vec::with_capacity(alloc, cards.len())?;
     let mut seen = Seen::new(alloc);
@@ -71,7 +71,7 @@ fn scan_cards(alloc: Global, bytes: &[u8], cards: &[Card]) -> Result<Scan, DeckF
     Ok(Scan { reads, seen })
 }
 
-/// The fault where no END stands.
+// The fault where no END stands.
 fn why_unended(seen: &Seen) -> Why
     ensures { result ≡ why_unended seen.now }
 {
@@ -82,8 +82,8 @@ fn why_unended(seen: &Seen) -> Why
     }
 }
 
-/// The deck of cards whose names are all there, but for want of memory.
-fn built(alloc: Global, scan: &Scan) -> Result<Parts, DeckFault>
+// The deck of cards whose names are all there, but for want of memory.
+fn deck_parts(alloc: Global, scan: &Scan) -> Result<Parts, DeckFault>
     ensures { Gives (λ a b. a ≡ b) result (Ok (deck_of scan.now)) }
 {
     match build(alloc, &scan.seen, &scan.reads) {
@@ -92,23 +92,23 @@ fn built(alloc: Global, scan: &Scan) -> Result<Parts, DeckFault>
     }
 }
 
-/// The deck, where each name is there.
-fn named(alloc: Global, scan: &Scan) -> Result<Parts, DeckFault>
-    ensures { Gives (λ a b. a ≡ b) result (named scan.now (first_nameless scan.now.seen [] scan.now.reads)) }
+// The deck, where each name is there.
+fn deck_if_named(alloc: Global, scan: &Scan) -> Result<Parts, DeckFault>
+    ensures { Gives (λ a b. a ≡ b) result (deck_if_named scan.now (first_nameless scan.now.seen [] scan.now.reads)) }
 {
     match find_names(alloc, &scan.seen, &scan.reads) {
         Err(fault) => Err(fault),
-        Ok(()) => built(alloc, scan),
+        Ok(()) => deck_parts(alloc, scan),
     }
 }
 
-/// The deck of cards that break no rule of form, where that many lines are there.
-fn resolved(alloc: Global, lines: u32, scan: &Scan) -> Result<Parts, DeckFault>
+// The deck of cards that break no rule of form, where that many lines are there.
+fn deck_if_ended(alloc: Global, lines: u32, scan: &Scan) -> Result<Parts, DeckFault>
     requires { lines < 2 ^ 31 }
-    ensures { Gives (λ a b. a ≡ b) result (resolved lines scan.now) }
+    ensures { Gives (λ a b. a ≡ b) result (deck_if_ended lines scan.now) }
 {
     if scan.seen.ended {
-        named(alloc, scan)
+        deck_if_named(alloc, scan)
     } else {
         Err(DeckFault::Refused {
             card: lines + 1,
@@ -117,7 +117,7 @@ fn resolved(alloc: Global, lines: u32, scan: &Scan) -> Result<Parts, DeckFault>
     }
 }
 
-/// The fault of a rule of cutting.
+// The fault of a rule of cutting.
 fn why_of_cut(why: CutWhy) -> Why
     ensures { result ≡ why_of_cut why }
 {
@@ -129,18 +129,18 @@ fn why_of_cut(why: CutWhy) -> Why
     }
 }
 
-/// The deck of cards that break no rule of form, or the fault of cutting behind them.
-fn judged(
+// The deck of cards that break no rule of form, or the fault of cutting behind them.
+fn deck_or_fault(
     alloc: Global,
     lines: u32,
     fault: Option<CutFault>,
     scan: &Scan,
 ) -> Result<Parts, DeckFault>
     requires { lines < 2 ^ 31 }
-    ensures { Gives (λ a b. a ≡ b) result (judged lines fault (Ok scan.now)) }
+    ensures { Gives (λ a b. a ≡ b) result (deck_or_fault lines fault (Ok scan.now)) }
 {
     match fault {
-        None => resolved(alloc, lines, scan),
+        None => deck_if_ended(alloc, lines, scan),
         Some(fault) => Err(DeckFault::Refused {
             card: fault.card,
             why: why_of_cut(fault.why),
@@ -148,7 +148,7 @@ fn judged(
     }
 }
 
-/// The deck that the cards before the fault of cutting spell, or the first fault.
+// The deck that the cards before the fault of cutting spell, or the first fault.
 fn read_cards(
     alloc: Global,
     bytes: &[u8],
@@ -163,11 +163,11 @@ fn read_cards(
 {
     match scan_cards(alloc, bytes, cards) {
         Err(fault) => Err(fault),
-        Ok(scan) => judged(alloc, lines, fault, &scan),
+        Ok(scan) => deck_or_fault(alloc, lines, fault, &scan),
     }
 }
 
-/// The deck that the bytes spell, or their first fault.
+// The deck that the bytes spell, or their first fault.
 fn read_bytes(alloc: Global, bytes: &[u8]) -> Result<Deck, DeckFault>
     ensures found { IfOk result (λ deck. DeckText bytes.now deck) }
     ensures refused { IfErr result (IsRefusalOf bytes.now) }

@@ -3,7 +3,7 @@
 ghost use Rattle.std.specs.Prelude.{◌≡◌};
 ghost use Rattle.rtm_deck.specs.References.{references, why_unfound};
 
-use rtm_items::{CardForm, Why};
+use rtm_deck_items::{CardForm, Why};
 
 /// What an operand names: a program, a task, an SRB, a label of the own program or of any, or nothing.
 #[derive(Clone, Copy, Debug, PartialEq, Eq)]

@@ -3,7 +3,7 @@
 ghost use Rattle.std.specs.Prelude.{◌≡◌};
 ghost use Rattle.rtm_deck.specs.Roles.{role_of, is_inside_role, is_line, is_program_role, is_misnamed_role};
 
-use rtm_items::{CardForm, Name};
+use rtm_deck_items::{CardForm, Name};
 
 /// What a card is in the order of a deck: a card of its frame, or a line of a program.
 #[derive(Clone, Copy, Debug, PartialEq, Eq)]

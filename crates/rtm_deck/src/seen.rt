@@ -1,22 +1,22 @@
 //! What the reader keeps of the cards before.
 
 ghost use Rattle.std.specs.Prelude.{◌≡◌, ◌+◌, ◌<◌, ◌^◌, OnOk, OnErr};
-ghost use Rattle.rtm_deck.specs.Seen.{fresh, after, is_unordered, is_misplaced_role, is_doubled_name, is_beyond, lacks_task_role, broken_rule, has_given, has_name, with_name};
+ghost use Rattle.rtm_deck.specs.Seen.{nothing_seen, after, is_unordered, is_misplaced_role, is_doubled_name, is_beyond, lacks_task_role, broken_rule, has_given, has_name, with_name};
 
 use crate::role::Role;
 use indexmap::IndexSet;
 use rtm_codes::NoMemory;
-use rtm_items::{Name, Why};
+use rtm_deck_items::{Name, Why};
 use std::alloc::Global;
 use std::marker::Model;
 
-/// How many programs a deck has at most.
+// How many programs a deck has at most.
 const MOST_PROGRAMS: usize = 256;
 
-/// How many units of work a deck has at most.
+// How many units of work a deck has at most.
 const MOST_UNITS: usize = 64;
 
-/// How many commands a deck has at most.
+// How many commands a deck has at most.
 const MOST_COMMANDS: u32 = 64;
 
 /// The names on the cards so far, each space in the order of its cards, and what the next card may be.
@@ -55,7 +55,7 @@ impl Model for Seen {
     } };
 }
 
-/// Whether there is a name, and it is among these.
+// Whether there is a name, and it is among these.
 fn has_given(names: &IndexSet<Name>, name: &Option<Name>) -> bool
     ensures { result ≡ has_given names.now.keys name.now }
 {
@@ -81,7 +81,7 @@ pub(crate) fn put_name(names: &mut IndexSet<Name>, name: &Option<Name>) -> Resul
 impl Seen {
     /// Before the first card.
     pub(crate) fn new(alloc: Global) -> Seen
-        ensures { result ≡ fresh }
+        ensures { result ≡ nothing_seen }
     {
         Seen {
             started: false,
@@ -98,7 +98,7 @@ impl Seen {
         }
     }
 
-    /// REGION that isn't the first card, a program, a unit or OPER behind OPER, and a command before it.
+    // REGION that isn't the first card, a program, a unit or OPER behind OPER, and a command before it.
     fn is_unordered(&self, role: Role) -> bool
         ensures { result ≡ is_unordered self.now role }
     {
@@ -116,7 +116,7 @@ impl Seen {
         self.ended || role.is_inside() != self.inside || self.is_unordered(role)
     }
 
-    /// Whether the name stands in its space before.
+    // Whether the name stands in its space before.
     fn is_doubled(&self, role: Role, name: &Option<Name>) -> bool
         ensures { result ≡ is_doubled_name self.now role name.now }
     {
@@ -128,7 +128,7 @@ impl Seen {
         }
     }
 
-    /// Whether it is one program, unit or command more than there may be.
+    // Whether it is one program, unit or command more than there may be.
     fn is_beyond(&self, role: Role) -> bool
         ensures { result ≡ is_beyond self.now role }
     {
@@ -140,7 +140,7 @@ impl Seen {
         }
     }
 
-    /// Whether it is END though no task stands before.
+    // Whether it is END though no task stands before.
     fn lacks_task(&self, role: Role) -> bool
         ensures { result ≡ lacks_task_role self.now role }
     {

@@ -1,8 +1,10 @@
+//! Decks that are read, and the first faults of others.
+
 use super::*;
 use std::alloc::{AllocError, Global};
 use std::test::Fail;
 
-/// The fault of an input that is refused.
+// The fault of an input that is refused.
 fn fault_of(alloc: Global, bytes: &[u8]) -> Option<DeckFault> {
     match read_deck(alloc, bytes) {
         Ok(_) => None,
@@ -14,8 +16,8 @@ fn is_refused(alloc: Global, bytes: &[u8], card: u32, why: Why) -> bool {
     fault_of(alloc, bytes) == Some(DeckFault::Refused { card, why })
 }
 
-/// A text so many times.
-fn repeated(alloc: Global, text: &[u8], times: usize) -> Result<Vec<u8>, AllocError> {
+// A text so many times.
+fn repeated_text(alloc: Global, text: &[u8], times: usize) -> Result<Vec<u8>, AllocError> {
     let mut bytes = Vec::new(alloc);
     for _ in 0..times {
         bytes.extend_from_slice(text)?;
@@ -23,7 +25,7 @@ fn repeated(alloc: Global, text: &[u8], times: usize) -> Result<Vec<u8>, AllocEr
     Ok(bytes)
 }
 
-/// As many programs, P0 to P9999 by their number.
+// As many programs, P0 to P9999 by their number.
 fn programs(alloc: Global, count: u32) -> Result<Vec<u8>, AllocError> {
     let mut bytes = Vec::new(alloc);
     for i in 0..count {
@@ -173,7 +175,7 @@ fn names_the_first_fault(rt: HostRuntime) {
 
 #[test]
 fn keeps_limits(rt: HostRuntime) -> Result<(), Fail> {
-    let bytes = repeated(rt.alloc(), b"*\n", 10_001)?;
+    let bytes = repeated_text(rt.alloc(), b"*\n", 10_001)?;
     assert!(rt; is_refused(rt.alloc(), &bytes, 10_001, Why::OverLimit));
     let bytes = programs(rt.alloc(), 256)?;
     assert!(rt; is_refused(rt.alloc(), &bytes, 513, Why::NoJobStep));

@@ -1,12 +1,12 @@
 -- Holdings were born before the next entry, whatever is done to them.
 use Rattle.std.proofs.Common.{◌≡◌, ℕ, zero, suc, ◌+◌, ◌<◌, ◌≤◌, Bool, true, false, cond, List, [], ◌∷◌, replicate, Result, Ok, Err, OnOk, OnErr, sym, subst, arith}
 use Rattle.std.specs.Prelude.{◌==◌, not, if◌then◌else◌, filter, slice_index_or, slice_set}
-use Rattle.rtm_operands.specs.declared.value.Res.{Res}
-use Rattle.rtm_operands.specs.declared.value.Res.TheVariants.{Enq, Stor, Dsn, Timr}
+use Rattle.rtm_deck_operands.specs.declared.value.Res.{Res}
+use Rattle.rtm_deck_operands.specs.declared.value.Res.TheVariants.{Enq, Stor, Dsn, Timr}
 use Rattle.rtm_model.specs.declared.holding.Holding.{Holding}
 use Rattle.rtm_model.specs.Chains.{without_first}
 use Rattle.rtm_ending.specs.View.{HoldsView}
-use Rattle.rtm_model.specs.Ending.{Holdings, no_holdings, on_class, held_by, is_of_id, got, freed, released_of, released, AreBornBefore, IsHeldBefore, AreHeldBefore}
+use Rattle.rtm_model.specs.Ending.{Holdings, no_holdings, on_class, holdings_of, is_of_id, after_get, after_free, owner_after_release, after_release, AreBornBefore, IsHeldBefore, AreHeldBefore}
 
 module _ (n : ℕ) where
   nothing_before : IsHeldBefore n no_holdings
@@ -33,7 +33,7 @@ module _ (n : ℕ) where
   before-without_first p [] h = tt
   before-without_first p (x ∷ xs) h = drop_first (p x) x xs (without_first p xs) h.0 h.1 (before-without_first p xs h.1)
 
-  before-released_of : (born : ℕ) (held : Holdings) → IsHeldBefore n held → IsHeldBefore n (released_of born held)
+  before-released_of : (born : ℕ) (held : Holdings) → IsHeldBefore n held → IsHeldBefore n (owner_after_release born held)
   before-released_of born held h =
       let p : Holding → Bool = λ x. not (x.born == born) in
       record { enq = before-filter p held.enq h.enq; stor = before-filter p held.stor h.stor; dsn = before-filter p held.dsn h.dsn; timr = before-filter p held.timr h.timr }
@@ -60,13 +60,13 @@ module _ (n : ℕ) where
   before_at (x ∷ xs) zero h = h.0
   before_at (x ∷ xs) (suc i) h = before_at xs i h.1
 
-  pub got_before : (x : Holding) (owners : List Holdings) → x.born < n → AreHeldBefore n owners → AreHeldBefore n (got x owners)
-  got_before x owners below h = before-set owners x.owner _ h (before-put x.class x (held_by x.owner owners) below (before_at owners x.owner h))
+  pub got_before : (x : Holding) (owners : List Holdings) → x.born < n → AreHeldBefore n owners → AreHeldBefore n (after_get x owners)
+  got_before x owners below h = before-set owners x.owner _ h (before-put x.class x (holdings_of x.owner owners) below (before_at owners x.owner h))
 
-  pub freed_before : (owner : ℕ) (class : Res) (id : ℕ) (owners : List Holdings) → AreHeldBefore n owners → AreHeldBefore n (freed owner class id owners)
-  freed_before owner class id owners h = before-set owners owner _ h (before-taken class (is_of_id id) (held_by owner owners) (before_at owners owner h))
+  pub freed_before : (owner : ℕ) (class : Res) (id : ℕ) (owners : List Holdings) → AreHeldBefore n owners → AreHeldBefore n (after_free owner class id owners)
+  freed_before owner class id owners h = before-set owners owner _ h (before-taken class (is_of_id id) (holdings_of owner owners) (before_at owners owner h))
 
-  pub released_before : (born : ℕ) (owners : List Holdings) → AreHeldBefore n owners → AreHeldBefore n (released born owners)
+  pub released_before : (born : ℕ) (owners : List Holdings) → AreHeldBefore n owners → AreHeldBefore n (after_release born owners)
   released_before born [] h = tt
   released_before born (x ∷ xs) h = (before-released_of born x h.0, released_before born xs h.1)
 
@@ -81,7 +81,7 @@ later_before m n (x ∷ xs) le h =
     (record { enq = later m n x.enq le h.0.enq; stor = later m n x.stor le h.0.stor; dsn = later m n x.dsn le h.0.dsn; timr = later m n x.timr le h.0.timr }, later_before m n xs le h.1)
 
 -- whether there was room or not
-pub held_before_next : {X Y : Type 0} (r : Result X Y) (h : Holding) (old new : HoldsView) → OnOk r (new ≡ record old { owners = got h old.owners }) → OnErr r (new ≡ old) → AreHeldBefore h.born old.owners → AreHeldBefore (h.born + 1) new.owners
+pub held_before_next : {X Y : Type 0} (r : Result X Y) (h : Holding) (old new : HoldsView) → OnOk r (new ≡ record old { owners = after_get h old.owners }) → OnErr r (new ≡ old) → AreHeldBefore h.born old.owners → AreHeldBefore (h.born + 1) new.owners
 held_before_next (Ok x) h old new ok err before =
     subst (λ (v : HoldsView). AreHeldBefore (h.born + 1) v.owners) (sym ok) (got_before (h.born + 1) h old.owners (omega arith) (later_before h.born (h.born + 1) old.owners (omega arith) before))
 held_before_next (Err y) h old new ok err before =

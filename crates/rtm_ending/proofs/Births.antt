@@ -4,11 +4,11 @@ use Rattle.std.specs.Prelude.{◌==◌, not, if◌then◌else◌, map, filter, s
 use Rattle.std.proofs.lemmas.List.{reverse-append, reverse-reverse, take_at, length_push, length-replicate, drop_all, append-nil, take_all}
 use Rattle.std.proofs.lemmas.Bool.Decides.{nat_tests}
 use Rattle.std.proofs.lemmas.Bool.{eq-eqb}
-use Rattle.rtm_operands.specs.declared.value.Res.{Res}
-use Rattle.rtm_operands.specs.declared.value.Res.TheVariants.{Enq, Stor, Dsn, Timr}
+use Rattle.rtm_deck_operands.specs.declared.value.Res.{Res}
+use Rattle.rtm_deck_operands.specs.declared.value.Res.TheVariants.{Enq, Stor, Dsn, Timr}
 use Rattle.rtm_model.specs.declared.holding.Holding.{Holding}
 use Rattle.rtm_model.specs.Chains.{without_first}
-use Rattle.rtm_model.specs.Ending.{Holdings, no_holdings, on_class, held_by, is_of_id, got, freed, without_holding, released_of, released, AreBornBefore, IsHeldBefore, AreHeldBefore}
+use Rattle.rtm_model.specs.Ending.{Holdings, no_holdings, on_class, holdings_of, is_of_id, after_get, after_free, without_holding, owner_after_release, after_release, AreBornBefore, IsHeldBefore, AreHeldBefore}
 use Rattle.rtm_ending.specs.View.{births_at, births_of, births_among, AreKept}
 
 -- one or none, by a test
@@ -87,8 +87,8 @@ pub births-none_of : (born : ℕ) (held : Holdings) → IsHeldBefore born held �
 births-none_of born held h =
     omega (arith, births-before born held.enq h.enq, births-before born held.stor h.stor, births-before born held.dsn h.dsn, births-before born held.timr h.timr)
 
-pub births-released_of : (b born : ℕ) (held : Holdings) → births_of b (released_of born held) ≤ births_of b held
-births-released_of b born held =
+pub births-owner_after_release : (b born : ℕ) (held : Holdings) → births_of b (owner_after_release born held) ≤ births_of b held
+births-owner_after_release b born held =
     let p : Holding → Bool = λ x. not (x.born == born) in
     omega (arith, births-filter b p held.enq, births-filter b p held.stor, births-filter b p held.dsn, births-filter b p held.timr)
 
@@ -104,7 +104,7 @@ births-put b Stor h held = omega arith
 births-put b Dsn h held = omega arith
 births-put b Timr h held = omega arith
 
-pub not_there_of : (born : ℕ) (held : Holdings) → births_of born held ≡ 0 → released_of born held ≡ held
+pub not_there_of : (born : ℕ) (held : Holdings) → births_of born held ≡ 0 → owner_after_release born held ≡ held
 not_there_of born held e =
     let enq : births_at born held.enq ≡ 0 = omega arith in
     let stor : births_at born held.stor ≡ 0 = omega arith in
@@ -132,13 +132,13 @@ births-set_fewer b [] i d held fewer = omega arith
 births-set_fewer b (x ∷ xs) zero d held fewer = omega arith
 births-set_fewer b (x ∷ xs) (suc i) d held fewer = omega (arith, births-set_fewer b xs i d held fewer)
 
-pub births-released : (b born : ℕ) (owners : List Holdings) → births_among b (released born owners) ≤ births_among b owners
-births-released b born [] = omega arith
-births-released b born (x ∷ xs) = omega (arith, births-released_of b born x, births-released b born xs)
+pub births-after_release : (b born : ℕ) (owners : List Holdings) → births_among b (after_release born owners) ≤ births_among b owners
+births-after_release b born [] = omega arith
+births-after_release b born (x ∷ xs) = omega (arith, births-owner_after_release b born x, births-after_release b born xs)
 
-pub births-freed : (b owner : ℕ) (class : Res) (id : ℕ) (owners : List Holdings) → births_among b (freed owner class id owners) ≤ births_among b owners
-births-freed b owner class id owners =
-    births-set_fewer b owners owner no_holdings _ (births-taken b class (is_of_id id) (held_by owner owners))
+pub births-after_free : (b owner : ℕ) (class : Res) (id : ℕ) (owners : List Holdings) → births_among b (after_free owner class id owners) ≤ births_among b owners
+births-after_free b owner class id owners =
+    births-set_fewer b owners owner no_holdings _ (births-taken b class (is_of_id id) (holdings_of owner owners))
 
 pub births_at_index : (b : ℕ) (owners : List Holdings) (i : ℕ) (d : Holdings) → i < length owners → births_of b (slice_index_or owners i d) ≤ births_among b owners
 births_at_index b [] i d within = absurd (omega arith)
@@ -149,15 +149,15 @@ births_at_index b (x ∷ xs) (suc i) d within = omega (arith, births_at_index b 
 got_step : (a b all one n m : ℕ) → all + m ≡ n + (m + one) → n ≤ 1 → (a ≡ b → n ≡ 0) → one ≡ (if a == b then 1 else 0) → all ≤ 1
 got_step a b all one n m e most fresh is = grind (arith, nat_tests)
 
-pub births-got : (b : ℕ) (h : Holding) (owners : List Holdings) → h.owner < length owners → AreHeldBefore h.born owners → births_among b owners ≤ 1 → births_among b (got h owners) ≤ 1
-births-got b h owners within before most =
-    let held : Holdings = held_by h.owner owners in
-    let all : births_among b (got h owners) + births_of b held ≡ births_among b owners + (births_of b held + (if h.born == b then 1 else 0)) =
+pub births-after_get : (b : ℕ) (h : Holding) (owners : List Holdings) → h.owner < length owners → AreHeldBefore h.born owners → births_among b owners ≤ 1 → births_among b (after_get h owners) ≤ 1
+births-after_get b h owners within before most =
+    let held : Holdings = holdings_of h.owner owners in
+    let all : births_among b (after_get h owners) + births_of b held ≡ births_among b owners + (births_of b held + (if h.born == b then 1 else 0)) =
     births-set b owners h.owner no_holdings _ within ∙ ap (λ (n : ℕ). births_among b owners + n) (births-put b h.class h held) in
     let fresh : h.born ≡ b → births_among b owners ≡ 0 = λ e. ap (λ (n : ℕ). births_among n owners) (sym e) ∙ births-none_among h.born owners before in
-    got_step h.born b (births_among b (got h owners)) (if h.born == b then 1 else 0) (births_among b owners) (births_of b held) all most fresh refl
+    got_step h.born b (births_among b (after_get h owners)) (if h.born == b then 1 else 0) (births_among b owners) (births_of b held) all most fresh refl
 
-pub nobody_else : (born : ℕ) (owners : List Holdings) → births_among born owners ≡ 0 → released born owners ≡ owners
+pub nobody_else : (born : ℕ) (owners : List Holdings) → births_among born owners ≡ 0 → after_release born owners ≡ owners
 nobody_else born [] e = refl
 nobody_else born (x ∷ xs) e =
     let here : births_of born x ≡ 0 = omega arith in
@@ -167,11 +167,11 @@ nobody_else born (x ∷ xs) e =
     λ i. a i ∷ b i
 
 -- the one owner whose holding was born there is changed, and no other one has such a holding
-pub released_one : (born : ℕ) (owners : List Holdings) (i : ℕ) (d : Holdings) → i < length owners → births_of born (slice_index_or owners i d) ≡ 1 → births_among born owners ≤ 1 → slice_set owners i (released_of born (slice_index_or owners i d)) ≡ released born owners
+pub released_one : (born : ℕ) (owners : List Holdings) (i : ℕ) (d : Holdings) → i < length owners → births_of born (slice_index_or owners i d) ≡ 1 → births_among born owners ≤ 1 → slice_set owners i (owner_after_release born (slice_index_or owners i d)) ≡ after_release born owners
 released_one born [] i d within one most = absurd (omega arith)
 released_one born (x ∷ xs) zero d within one most =
     let there : births_among born xs ≡ 0 = omega arith in
-    ap (λ l. released_of born x ∷ l) (sym (nobody_else born xs there))
+    ap (λ l. owner_after_release born x ∷ l) (sym (nobody_else born xs there))
 released_one born (x ∷ xs) (suc i) d within one most =
     let below : i < length xs = omega arith in
     let here : births_of born x ≡ 0 = omega (arith, births_at_index born xs i d below) in
@@ -181,9 +181,9 @@ released_one born (x ∷ xs) (suc i) d within one most =
 
 -- What holdings keep
 
-pub kept_got : (units : ℕ) (h : Holding) (owners : List Holdings) → h.owner ≤ units → AreHeldBefore h.born owners → AreKept units owners → length (got h owners) ≡ length owners → AreKept units (got h owners)
+pub kept_got : (units : ℕ) (h : Holding) (owners : List Holdings) → h.owner ≤ units → AreHeldBefore h.born owners → AreKept units owners → length (after_get h owners) ≡ length owners → AreKept units (after_get h owners)
 kept_got units h owners within before kept same =
-    record { all = omega arith; distinct = λ b. births-got b h owners (omega arith) before (kept.distinct b) }
+    record { all = omega arith; distinct = λ b. births-after_get b h owners (omega arith) before (kept.distinct b) }
 
 pub kept_fewer : (units : ℕ) (owners now : List Holdings) → AreKept units owners → length now ≡ length owners → ((b : ℕ) → births_among b now ≤ births_among b owners) → AreKept units now
 kept_fewer units owners now kept same fewer =

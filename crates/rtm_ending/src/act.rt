@@ -1,3 +1,5 @@
+//! The next act of an ending.
+
 ghost use Rattle.std.specs.Prelude.{◌≡◌};
 ghost use Rattle.rtm_ending.specs.Acts.{next_act};
 

@@ -1,3 +1,5 @@
+//! The holdings of one owner and one class.
+
 ghost use Rattle.std.specs.Prelude.{◌≡◌, ◌<◌, ◌≤◌, ◌==◌, not, [], ◌∷◌, length, reverse, filter, find, position, slice_get, vec_capacity, vec_len, if◌then◌else◌, IfOk, IfSome, IfNone, IsTrue};
 ghost use Rattle.rtm_model.specs.Chains.{without_first};
 ghost use Rattle.rtm_model.specs.Ending.{is_of_id, without_holding};

@@ -1,6 +1,8 @@
+//! All holdings, by owner and class.
+
 ghost use Rattle.std.specs.Prelude.{◌≡◌, ◌+◌, ◌≤◌, ◌<◌, ◌==◌, ◌↔◌, not, ◌∷◌, length, find, fold, map, replicate, slice_set, if◌then◌else◌, vec_len, vec_capacity, IfOk, IfNone, IsErr, OnOk, OnErr, IsTrue, None};
 ghost use Rattle.std.specs.Option.{ok_or, option_or};
-ghost use Rattle.rtm_model.specs.Ending.{no_holdings, held_count, held_by, on_owner, on_class, of_class, newer, newest_held, newest_of_all, next_release, newest_equal, got, freed, released, AreHeldBefore};
+ghost use Rattle.rtm_model.specs.Ending.{no_holdings, held_count, holdings_of, on_owner, on_class, of_class, newer_holding, newest_held, newest_of_all, next_release, newest_equal, after_get, after_free, after_release, AreHeldBefore};
 ghost use Rattle.rtm_ending.specs.Refused.{not_held};
 ghost use Rattle.rtm_ending.specs.View.{HoldsView, births_among};
 
@@ -8,7 +10,7 @@ use crate::class_list::MOST_HOLDINGS;
 use crate::owner_lists::OwnerLists;
 use crate::refused::NotHeld;
 use rtm_codes::NoMemory;
-use rtm_items::Deck;
+use rtm_deck_items::Deck;
 use rtm_model::{Full, Holding, Res};
 use std::alloc::Global;
 use std::marker::Model;
@@ -46,8 +48,8 @@ fn owners_with_room(alloc: Global, count: usize) -> Result<Vec<OwnerLists>, NoMe
 }
 
 // The newer of two holdings.
-fn newer(one: Option<Holding>, other: Option<Holding>) -> Option<Holding>
-    ensures { result ≡ newer one other }
+fn newer_holding(one: Option<Holding>, other: Option<Holding>) -> Option<Holding>
+    ensures { result ≡ newer_holding one other }
 {
     match (one, other) {
         (None, other) => other,
@@ -63,20 +65,20 @@ fn newest_of_all(owners: &[OwnerLists], class: Res) -> Option<Holding>
     owners
         .iter()
         .map(|lists| lists.newest(class))
-        .fold(None, newer)
+        .fold(None, newer_holding)
 }
 
 fn put_in(owners: &mut Vec<OwnerLists>, holding: Holding)
     requires within { holding.owner < length owners.old.items }
-    requires room { held_count (held_by holding.owner owners.old.items) < 256 }
-    ensures { owners.new.items ≡ got holding owners.old.items }
+    requires room { held_count (holdings_of holding.owner owners.old.items) < 256 }
+    ensures { owners.new.items ≡ after_get holding owners.old.items }
 {
     owners[holding.owner as usize].put(holding);
 }
 
 fn take_from(owners: &mut Vec<OwnerLists>, owner: u16, class: Res, id: u32) -> Option<Holding>
     ensures which { result ≡ newest_equal owner class id owners.old.items }
-    ensures lists { owners.new.items ≡ freed owner class id owners.old.items }
+    ensures lists { owners.new.items ≡ after_free owner class id owners.old.items }
     ensures absent { IfNone result (owners.new.items ≡ owners.old.items) }
 {
     if owner as usize >= owners.len() {
@@ -88,7 +90,7 @@ fn take_from(owners: &mut Vec<OwnerLists>, owner: u16, class: Res, id: u32) -> O
 // Takes the holding away that was born at that entry, where it is the newest of its owner and class.
 fn release_newest(owners: &mut [OwnerLists], born: u32) -> bool
     requires { births_among born owners.old ≤ 1 }
-    ensures { owners.new ≡ (if result then released born owners.old else owners.old) }
+    ensures { owners.new ≡ (if result then after_release born owners.old else owners.old) }
 {
     for lists in owners.iter_mut() {
         if lists.release_newest(born) {
@@ -100,7 +102,7 @@ fn release_newest(owners: &mut [OwnerLists], born: u32) -> bool
 
 // Takes the holding away that was born at that entry, wherever it is.
 fn release_anywhere(owners: &mut [OwnerLists], born: u32)
-    ensures { owners.new ≡ released born owners.old }
+    ensures { owners.new ≡ after_release born owners.old }
 {
     for lists in owners.iter_mut() {
         lists.release(born);
@@ -110,7 +112,7 @@ fn release_anywhere(owners: &mut [OwnerLists], born: u32)
 // Takes the holding away that was born at that entry: mostly it is the newest of its owner and class.
 fn release_in(owners: &mut [OwnerLists], born: u32)
     requires { births_among born owners.old ≤ 1 }
-    ensures { owners.new ≡ released born owners.old }
+    ensures { owners.new ≡ after_release born owners.old }
 {
     if !release_newest(owners, born) {
         release_anywhere(owners, born);
@@ -138,7 +140,7 @@ impl Holds {
 
     /// Whether the owner has as many holdings as it may have, so that its GET is the error EE4 (this profile).
     pub fn is_full(&self, owner: u16) -> bool
-        ensures { result ≡ (held_count (held_by owner self.now.owners) == 256) }
+        ensures { result ≡ (held_count (holdings_of owner self.now.owners) == 256) }
     {
         match self.owners.get(owner as usize) {
             Some(lists) => lists.count() == MOST_HOLDINGS,
@@ -150,8 +152,8 @@ impl Holds {
     pub fn get(&mut self, holding: Holding) -> Result<(), Full>
         requires owner { holding.owner ≤ self.old.units }
         requires newest { AreHeldBefore holding.born self.old.owners }
-        ensures full { IsErr result ↔ (held_count (held_by holding.owner self.old.owners) ≡ 256) }
-        ensures ok { OnOk result (self.new ≡ record self.old { owners = got holding self.old.owners }) }
+        ensures full { IsErr result ↔ (held_count (holdings_of holding.owner self.old.owners) ≡ 256) }
+        ensures ok { OnOk result (self.new ≡ record self.old { owners = after_get holding self.old.owners }) }
         ensures err { OnErr result (self.new ≡ self.old) }
     {
         if self.owners[holding.owner as usize].count() == MOST_HOLDINGS {
@@ -175,7 +177,7 @@ impl Holds {
     /// no such unit.
     pub fn free(&mut self, unit: u16, class: Res, id: u32) -> Result<Holding, NotHeld>
         ensures which { result ≡ ok_or (newest_equal unit class id self.old.owners) not_held }
-        ensures holds { self.new ≡ record self.old { owners = freed unit class id self.old.owners } }
+        ensures holds { self.new ≡ record self.old { owners = after_free unit class id self.old.owners } }
         ensures err { OnErr result (self.new ≡ self.old) }
     {
         match take_from(&mut self.owners, unit, class, id) {
@@ -197,7 +199,7 @@ impl Holds {
 
     /// Takes the holding away that was born at that entry, if it is there, whoever holds it.
     pub fn release(&mut self, born: u32)
-        ensures { self.new ≡ record self.old { owners = released born self.old.owners } }
+        ensures { self.new ≡ record self.old { owners = after_release born self.old.owners } }
     {
         release_in(&mut self.owners, born);
     }

@@ -1,6 +1,8 @@
+//! The resource managers.
+
 ghost use Rattle.std.specs.Prelude.{◌≡◌, ◌≤◌, ◌==◌, ◌↔◌, not, [], ◌∷◌, length, reverse, filter, find, position, vec_capacity, IfOk, IfSome, IfNone, IsErr, OnOk, OnErr, Some};
 ghost use Rattle.std.specs.Option.{ok_or};
-ghost use Rattle.rtm_model.specs.Ending.{is_same_task, is_of_task, is_equal_manager, newest_manager, deleted, next_manager, without_manager, without_managers_of};
+ghost use Rattle.rtm_model.specs.Ending.{is_same_task, is_of_task, is_equal_manager, newest_manager, after_delete, next_manager, without_manager, without_managers_of};
 ghost use Rattle.rtm_ending.specs.Newest.{IsNewest, IsAbsent};
 ghost use Rattle.rtm_ending.specs.Refused.{not_found};
 
@@ -10,7 +12,7 @@ use rtm_model::{Full, Manager1};
 use std::alloc::Global;
 use std::marker::Model;
 
-/// At most this many living resource managers (this profile).
+// At most this many living resource managers (this profile).
 const MOST_MANAGERS: usize = 64;
 
 /// The resource managers of all tasks and of the address space (Authorized Assembler Services Guide, "Using resource
@@ -166,7 +168,7 @@ impl Managers {
     /// RESMGR DELETE: takes the newest manager of that program and task away. `NotFound` where there is none.
     pub fn delete(&mut self, prog: u16, task: Option<u16>) -> Result<Manager1, NotFound>
         ensures which { result ≡ ok_or (newest_manager prog task self.old) not_found }
-        ensures list { self.new ≡ deleted prog task self.old }
+        ensures list { self.new ≡ after_delete prog task self.old }
         ensures err { OnErr result (self.new ≡ self.old) }
     {
         match newest_index(&self.list, prog, task) {
@@ -183,7 +185,7 @@ impl Managers {
     }
 
     /// The manager that was born at that entry.
-    pub fn born_at(&self, born: u32) -> Option<Manager1>
+    pub fn manager_born_at(&self, born: u32) -> Option<Manager1>
         ensures { result ≡ find (λ manager. manager.born == born) self.now }
     {
         newest_born_at(&self.list, born)

@@ -1,6 +1,8 @@
+//! The holdings of one owner, by class.
+
 ghost use Rattle.std.specs.Prelude.{◌≡◌, ◌<◌, ◌≤◌, ◌==◌, ◌∷◌, length, find, if◌then◌else◌, IfOk, IfNone, IsTrue};
 ghost use Rattle.rtm_model.specs.Chains.{without_first};
-ghost use Rattle.rtm_model.specs.Ending.{no_holdings, of_class, on_class, held_count, is_of_id, first_by_class, newest_held, released_of};
+ghost use Rattle.rtm_model.specs.Ending.{no_holdings, of_class, on_class, held_count, is_of_id, first_by_class, newest_held, owner_after_release};
 ghost use Rattle.rtm_ending.specs.View.{births_of};
 
 use crate::class_list::ClassList;
@@ -119,7 +121,7 @@ impl OwnerLists {
     pub(crate) fn release_newest(&mut self, born: u32) -> bool
         requires { births_of born self.old ≤ 1 }
         ensures there { IsTrue result → births_of born self.old ≡ 1 }
-        ensures lists { self.new ≡ (if result then released_of born self.old else self.old) }
+        ensures lists { self.new ≡ (if result then owner_after_release born self.old else self.old) }
     {
         if self.enq.release_newest(born) {
             return true;
@@ -135,7 +137,7 @@ impl OwnerLists {
 
     /// Takes the holding away that was born at that entry, if it is there.
     pub(crate) fn release(&mut self, born: u32)
-        ensures { self.new ≡ released_of born self.old }
+        ensures { self.new ≡ owner_after_release born self.old }
     {
         self.enq.release(born);
         self.stor.release(born);

@@ -1,3 +1,5 @@
+//! Holdings and managers, call by call.
+
 ghost use Rattle.std.specs.Prelude.{◌≡◌, ◌+◌};
 ghost use Rattle.rtm_model.specs.Ending.{AreHeldBefore};
 
@@ -20,7 +22,7 @@ enum HoldStep {
     Release(u32),
 }
 
-/// Does the step at the entry `index`, and tells the birth of the holding that it makes or gives.
+// Does the step at the entry `index`, and tells the birth of the holding that it makes or gives.
 #[tactic(auto, using(crate::proofs::Before::got_before, crate::proofs::Before::freed_before, crate::proofs::Before::released_before, crate::proofs::Before::later_before))]
 fn hold_step(holds: &mut Holds, units: u16, index: u32, step: HoldStep) -> Option<u32>
     requires units { units ≡ holds.old.units }
@@ -209,7 +211,7 @@ enum ManagerStep {
     DropTask(u16),
 }
 
-/// Does the step, and tells the birth of the manager that it adds or gives.
+// Does the step, and tells the birth of the manager that it adds or gives.
 fn manager_step(managers: &mut Managers, step: ManagerStep) -> Option<u32> {
     match step {
         ManagerStep::Add(born, prog, task) => {
@@ -283,7 +285,7 @@ fn runs_the_newest_manager_first(rt: HostRuntime) -> Result<(), Fail> {
         assert_eq!(rt; born, next, "after {step:?}");
     }
     assert_eq!(rt; managers.find(5, Some(0)).map(|mgr| mgr.born), Some(3));
-    let there = [3, 4].map(|born| managers.born_at(born).map(|mgr| mgr.prog));
+    let there = [3, 4].map(|born| managers.manager_born_at(born).map(|mgr| mgr.prog));
     assert_eq!(rt; there, [Some(5), None]);
     assert_eq!(rt; managers.delete(9, Some(0)), Err(NotFound));
     Ok(())

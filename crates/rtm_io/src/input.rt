@@ -1,3 +1,5 @@
+//! Reading a source to its end.
+
 ghost use Rattle.std.specs.Prelude.{◌≡◌, ◌+◌, ◌-◌, ◌^◌, ◌==◌, ◌<◌, ◌≤◌, ◌++◌, length, take, count_by, vec_len, IfOk, IfErr, OnOk, OnErr};
 ghost use Rattle.rtm_io.specs.Stream.{Gives, TakesAtMost, IsAtEnd};
 ghost use Rattle.rtm_io.specs.Input.{GivesAll, IsInFault, IsReadFault};
@@ -17,7 +19,7 @@ pub enum InFault {
     TooLong { line: u32 },
 }
 
-/// How many bytes a single read asks for, at most.
+// How many bytes a single read asks for, at most.
 const CHUNK: usize = 65536;
 
 /// Gives all bytes to the end of the source, where they are no more than `limit`. Where there are

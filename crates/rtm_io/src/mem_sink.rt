@@ -1,3 +1,5 @@
+//! A sink in memory.
+
 ghost use Rattle.std.specs.Prelude.{◌≡◌, ◌⊎◌, ◌<◌, ◌≤◌, ◌↔◌, ◌+◌, ◌++◌, length, take, min, vec_len, vec_capacity, Contains, IsErr, IsTrue, IfOk, OnErr};
 ghost use Rattle.rtm_io.specs.Faults.{HasCause};
 

@@ -1,3 +1,5 @@
+//! A source in memory.
+
 ghost use Rattle.std.specs.Prelude.{◌≡◌, ◌↔◌, ◌++◌, length, take, drop, min, Contains, IsErr, IfOk, OnErr};
 ghost use Rattle.rtm_io.specs.Faults.{HasCause};
 

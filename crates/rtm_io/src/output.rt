@@ -1,3 +1,5 @@
+//! Writing a whole text to a sink.
+
 ghost use Rattle.std.specs.Prelude.{OnOk, OnErr};
 ghost use Rattle.rtm_io.specs.Faults.{HasCause};
 ghost use Rattle.rtm_io.specs.Stream.{Appends, AppendsPrefix};

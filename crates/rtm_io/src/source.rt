@@ -1,3 +1,5 @@
+//! What gives bytes.
+
 ghost use Rattle.std.specs.Prelude.{◌≡◌, ℕ, ◌<◌, ◌≤◌, List, length, take, Option, IfOk, OnErr};
 ghost use Rattle.rtm_io.specs.Faults.{HasCause};
 ghost use Rattle.rtm_io.specs.Stream.{Gives, IsAtEnd};

@@ -1,3 +1,5 @@
+//! Standard output as a sink.
+
 ghost use Rattle.std.specs.Prelude.{◌≡◌, ◌<◌, ◌≤◌, length, IfOk, OnOk, OnErr};
 ghost use Rattle.std.specs.Io.KnownBytes.{WriteAppends};
 ghost use Rattle.rtm_io.specs.Faults.{HasCause, next_count};

@@ -1,3 +1,5 @@
+//! Standard input as a source.
+
 ghost use Rattle.std.specs.Prelude.{◌≡◌, ◌≤◌, length, IfOk, OnOk, OnErr};
 ghost use Rattle.std.specs.Io.KnownBytes.{ReadConsumes};
 ghost use Rattle.rtm_io.specs.Faults.{HasCause, next_count};

@@ -1,3 +1,5 @@
+//! Sources and sinks that fail, or that give and take little at a time.
+
 ghost use Rattle.std.specs.Prelude.{◌≤◌, None, Some, IfOk};
 
 use super::*;

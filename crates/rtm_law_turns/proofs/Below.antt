@@ -1,8 +1,8 @@
--- Whether some unit goes on. rtm_machine says this for its own search too, above this crate.
+-- Whether some unit goes on. rtm_system_world says this for its own search too, above this crate.
 use Rattle.std.proofs.Common.{◌≡◌, ℕ, zero, suc, ◌<◌, Bool, true, false, refl, subst, arith, eqb}
 use Rattle.std.specs.Prelude.{is_some, ◌||◌}
 use Rattle.std.proofs.lemmas.Bool.{eqb-false, eqb-true}
-use Rattle.rtm_items.specs.View.{DeckView}
+use Rattle.rtm_deck_items.specs.View.{DeckView}
 use Rattle.rtm_model.specs.Arrivals.{goes_on_below}
 use Rattle.rtm_model.specs.NextEntry.{next}
 use Rattle.rtm_model.specs.World.{World}

@@ -2,8 +2,8 @@
 use Rattle.std.proofs.Common.{◌≡◌, ℕ, suc, ◌+◌, ◌≤◌, List, [], ◌∷◌, length, Option, Some, None, refl, ap, subst, ◌∙◌, arith}
 use Rattle.std.specs.Prelude.{Bool, IfSome, not, slice_get}
 use Rattle.std.specs.Option.{option_map_or, option_or}
-use Rattle.rtm_items.specs.declared.deck.Command.{Command}
-use Rattle.rtm_items.specs.View.{DeckView}
+use Rattle.rtm_deck_items.specs.declared.deck.Command.{Command}
+use Rattle.rtm_deck_items.specs.View.{DeckView}
 use Rattle.rtm_model.specs.declared.entry.Fate.{Fate}
 use Rattle.rtm_model.specs.Arrivals.{arrival_fate, arrival_of, first_arrival, first_arrival_in, goes_on}
 use Rattle.rtm_model.specs.Legal.{MayFollow}

@@ -1,7 +1,7 @@
 //! Each law is the contract of a function that does nothing. A deck is any: none of these asks that it is well formed.
 
 ghost use Rattle.std.specs.Prelude.{◌≡◌, ℕ, None, Some, IsSome, take};
-ghost use Rattle.rtm_items.specs.View.{DeckView};
+ghost use Rattle.rtm_deck_items.specs.View.{DeckView};
 ghost use Rattle.rtm_model.specs.declared.entry.Entry.{Entry};
 ghost use Rattle.rtm_model.specs.Legal.{Legal, end_of};
 ghost use Rattle.rtm_model.specs.Moments.{IsAt, before};

@@ -5,15 +5,15 @@ use Rattle.std.specs.List.{list_all}
 use Rattle.std.proofs.lemmas.Bool.Decides.{nat_tests}
 use Rattle.rtm_codes.specs.declared.code.Code.{Code}
 use Rattle.rtm_codes.specs.declared.code.Code.TheVariants.{Sys, User}
-use Rattle.rtm_items.specs.declared.deck.Line.{Line}
-use Rattle.rtm_items.specs.declared.op.Op.{Op}
-use Rattle.rtm_items.specs.declared.op.Op.TheVariants.{SetRp}
-use Rattle.rtm_items.specs.declared.op.Setrp.{Setrp}
-use Rattle.rtm_items.specs.View.{ProgramView, DeckView}
-use Rattle.rtm_items.specs.Reading.{lines_in, op_in, op_at}
-use Rattle.rtm_operands.specs.Name.{is_padded_name}
-use Rattle.rtm_items.specs.WellFormed.{is_well_formed, is_program_of, is_label, is_op, are_distinct, labels_in, is_setrp, is_setrp_rc, is_retry_label, is_setrp_code, is_abend_code, is_reason, gives_some}
-use Rattle.rtm_items.proofs.FormFacts.{conditions}
+use Rattle.rtm_deck_items.specs.declared.deck.Line.{Line}
+use Rattle.rtm_deck_items.specs.declared.op.Op.{Op}
+use Rattle.rtm_deck_items.specs.declared.op.Op.TheVariants.{SetRp}
+use Rattle.rtm_deck_items.specs.declared.op.Setrp.{Setrp}
+use Rattle.rtm_deck_items.specs.View.{ProgramView, DeckView}
+use Rattle.rtm_deck_items.specs.Reading.{lines_in, op_in, op_at}
+use Rattle.rtm_deck_operands.specs.Name.{is_padded_name}
+use Rattle.rtm_deck_items.specs.WellFormed.{is_well_formed, is_program_of, is_label, is_op, are_distinct, labels_in, is_setrp, is_setrp_rc, is_retry_label, is_setrp_code, is_abend_code, is_reason, gives_some}
+use Rattle.rtm_deck_items.proofs.FormFacts.{conditions}
 use Rattle.rtm_model.specs.SetrpCard.{is_abend, is_given_abend, is_given_return_code, is_setrp_card}
 use Rattle.rtm_model.proofs.Lists.{both_true, at_from_list_all}
 

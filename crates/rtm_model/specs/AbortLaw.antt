@@ -3,10 +3,10 @@
 use Rattle.std.specs.Prelude.{Bool, IsTrue, List, Option, [], false, if◌then◌else◌, is_none, length, nat_lt, not, slice_get, take, true, ℕ, ◌&&◌, ◌+◌, ◌<◌, ◌==◌, ◌||◌, ◌∷◌, ◌≡◌, ◌≤◌}
 use Rattle.std.specs.List.{list_all, list_any}
 use Rattle.std.specs.Option.{option_map_or}
-use Rattle.rtm_items.specs.Reading.{job_step, op_at}
-use Rattle.rtm_items.specs.View.{DeckView}
-use Rattle.rtm_items.specs.declared.op.Op.{Op}
-use Rattle.rtm_items.specs.declared.op.Op.TheVariants.{Abterm, Attachx, Detach}
+use Rattle.rtm_deck_items.specs.Reading.{job_step, op_at}
+use Rattle.rtm_deck_items.specs.View.{DeckView}
+use Rattle.rtm_deck_items.specs.declared.op.Op.{Op}
+use Rattle.rtm_deck_items.specs.declared.op.Op.TheVariants.{Abterm, Attachx, Detach}
 use Rattle.rtm_model.specs.declared.abort.Abort.{Abort}
 use Rattle.rtm_model.specs.declared.entry.Class.{Class}
 use Rattle.rtm_model.specs.declared.entry.Entry.{Entry}
@@ -22,7 +22,7 @@ use Rattle.rtm_model.specs.Entries.{EndsAbort, ForbidsRetry, forbids_retry, has_
 use Rattle.rtm_model.specs.Moments.{IsAt, IsWhat, before, core_before, is_arrival, unit_before}
 use Rattle.rtm_model.specs.NextEntry.{is_retry}
 use Rattle.rtm_model.specs.Tasks.{is_number}
-use Rattle.rtm_model.specs.World.{UnitOfWork, World, lives_in, related_to, unit_at}
+use Rattle.rtm_model.specs.World.{UnitOfWork, World, lives_in, related_task, unit_at}
 use Rattle.rtm_model.specs.declared.entry.Class.TheVariants as classes
 
 -- What an entry queues
@@ -63,7 +63,7 @@ queues d front u (Arrive cmd fate) class target =
 queues d front u (Begin code dump) class target =
     is_subtask d front u target && not (has_begun target front) && is_same_class class classes.Mother
 queues d front u (Done code to_task to_step) class target =
-    (is_queued_if to_task && is_number target (related_to d u) && is_same_class class classes.Srb)
+    (is_queued_if to_task && is_number target (related_task d u) && is_same_class class classes.Srb)
     || (is_queued_if to_step && (job_step d == target) && is_same_class class classes.Step)
 queues d front u _ class target = false
 

@@ -1,11 +1,11 @@
--- What an entry needs so that it can be applied: that what it names is there, and room for what it bears (this
+-- What an entry needs so that it can be applied: that what it names is there, and room for what it makes (this
 -- profile). What a unit makes next has it, by the laws of legal histories.
 use Rattle.std.specs.Prelude.{Bool, IsSomeAnd, None, false, is_some, length, not, true, ℕ, ◌<◌, ◌≡◌, ◌≤◌}
 use Rattle.rtm_codes.specs.Code.{IsInRange}
-use Rattle.rtm_items.specs.Reading.{op_at}
-use Rattle.rtm_items.specs.View.{DeckView}
-use Rattle.rtm_items.specs.declared.op.Op.{Op}
-use Rattle.rtm_items.specs.declared.op.Op.TheVariants.{Attachx, EstaexCt, FrrAdd, Get, Link, MgrAdd, Return, Schedule}
+use Rattle.rtm_deck_items.specs.Reading.{op_at}
+use Rattle.rtm_deck_items.specs.View.{DeckView}
+use Rattle.rtm_deck_items.specs.declared.op.Op.{Op}
+use Rattle.rtm_deck_items.specs.declared.op.Op.TheVariants.{Attachx, EstaexCt, FrrAdd, Get, Link, MgrAdd, Return, Schedule}
 use Rattle.rtm_model.specs.declared.block.Place.{Place}
 use Rattle.rtm_model.specs.declared.entry.Class.{Class}
 use Rattle.rtm_model.specs.declared.entry.Entry.{Entry}
@@ -18,7 +18,7 @@ use Rattle.rtm_model.specs.declared.reg.Kind.{Kind}
 use Rattle.rtm_model.specs.Aborts.{first_abort}
 use Rattle.rtm_model.specs.Births.{routine_named}
 use Rattle.rtm_model.specs.Blocks.{has_one_block, newest_bracket, place_in}
-use Rattle.rtm_model.specs.Ending.{held_by, held_count}
+use Rattle.rtm_model.specs.Ending.{held_count, holdings_of}
 use Rattle.rtm_model.specs.Levels.{current, depth_in, error_in, is_manager}
 use Rattle.rtm_model.specs.NextEntry.{landed_record}
 use Rattle.rtm_model.specs.Record.{mark_of}
@@ -41,7 +41,7 @@ CanExecute w u rc (Link prog) = length (newest_bracket (Core.blocks (core_at u w
 CanExecute w u rc Return = has_one_block (Core.blocks (core_at u w)) ≡ false
 CanExecute w u rc (EstaexCt prog term cancel xctl) = HasRoom (core_at u w) 64 (length (Core.estaes (core_at u w)))
 CanExecute w u rc (FrrAdd prog) = HasRoom (core_at u w) 16 (length (Core.frrs (core_at u w)))
-CanExecute w u rc (Get class id) = held_count (held_by u w.holdings) < 256
+CanExecute w u rc (Get class id) = held_count (holdings_of u w.holdings) < 256
 CanExecute w u rc (MgrAdd prog space) = length w.managers < 64
 CanExecute w u rc (Attachx unit estai term) = rc ≡ 0 → IsDormant w unit
 CanExecute w u rc (Schedule unit) = rc ≡ 0 → IsDormant w unit

@@ -1,13 +1,13 @@
 -- Which of the operator's commands may arrive (this profile).
 use Rattle.std.specs.Prelude.{Bool, List, None, Option, Some, [], false, filter, if◌then◌else◌, is_none, is_some, length, nat_le, not, slice_get, suc, take, zero, ℕ, ◌&&◌, ◌+◌, ◌==◌, ◌||◌, ◌∷◌}
 use Rattle.std.specs.Option.{option_map, option_map_or, option_or}
-use Rattle.rtm_items.specs.View.{DeckView}
-use Rattle.rtm_items.specs.declared.deck.Command.{Command}
+use Rattle.rtm_deck_items.specs.View.{DeckView}
+use Rattle.rtm_deck_items.specs.declared.deck.Command.{Command}
 use Rattle.rtm_model.specs.declared.entry.Entry.{Entry}
 use Rattle.rtm_model.specs.declared.entry.Fate.{Fate}
 use Rattle.rtm_model.specs.declared.entry.What.TheVariants.{Arrive}
 use Rattle.rtm_model.specs.NextEntry.{next}
-use Rattle.rtm_model.specs.Outside.{fate_in, is_late}
+use Rattle.rtm_model.specs.Surroundings.{fate_in, is_late}
 use Rattle.rtm_model.specs.World.{UnitOfWork, World, master, unit_at}
 use Rattle.rtm_model.specs.declared.entry.Class.TheVariants as classes
 
@@ -21,8 +21,8 @@ abbrev pub goes_on : DeckView → World → Bool
 goes_on d w = goes_on_below d w (suc (master d))
 
 -- how many commands before that one have the same target
-abbrev pub earlier : ℕ → ℕ → List Command → ℕ
-earlier target cmd commands = length (filter (λ command. command.target == target) (take cmd commands))
+abbrev pub earlier_count : ℕ → ℕ → List Command → ℕ
+earlier_count target cmd commands = length (filter (λ command. command.target == target) (take cmd commands))
 
 -- the target can be cancelled: it lives, hasn't begun to end, and memory end hasn't begun
 abbrev pub is_cancellable : World → ℕ → Bool
@@ -30,7 +30,7 @@ is_cancellable w target = not (is_late w target) && is_none w.memory_end
 
 -- the target's earlier commands have arrived, and this one hasn't
 abbrev pub is_in_turn : DeckView → World → ℕ → ℕ → Bool
-is_in_turn d w target cmd = earlier target cmd d.commands == UnitOfWork.arrived (unit_at target w.units)
+is_in_turn d w target cmd = earlier_count target cmd d.commands == UnitOfWork.arrived (unit_at target w.units)
 
 -- the command may arrive after n entries; `quiet` says that no unit has a next entry
 abbrev pub is_due : DeckView → World → ℕ → Bool → ℕ → Command → Bool

@@ -3,11 +3,11 @@ use Rattle.std.specs.Prelude.{Bool, List, None, Option, Some, [], false, filter,
 use Rattle.std.specs.Option.{option_and_then, option_map, option_map_or}
 use Rattle.rtm_codes.specs.declared.code.Code.{Code}
 use Rattle.rtm_codes.specs.declared.code.Code.TheVariants.{Sys}
-use Rattle.rtm_items.specs.Reading.{label_at, op_at, job_step, program_of}
-use Rattle.rtm_items.specs.View.{DeckView}
-use Rattle.rtm_items.specs.declared.deck.Command.{Command}
-use Rattle.rtm_items.specs.declared.op.Op.{Op}
-use Rattle.rtm_items.specs.declared.op.Op.TheVariants.{Abend, Abterm, Attachx, Branch, Detach, EstaexCt, EstaexOv, EstaexZero, Free, FrrAdd, FrrDelete, FrrPurge, FrrReplace, Get, IfClup, IfCode, IfPerc, Link, Memterm, MgrAdd, MgrDelete, Post, Return, Schedule, SetRp, Xctl}
+use Rattle.rtm_deck_items.specs.Reading.{label_at, op_at, job_step, program_of}
+use Rattle.rtm_deck_items.specs.View.{DeckView}
+use Rattle.rtm_deck_items.specs.declared.deck.Command.{Command}
+use Rattle.rtm_deck_items.specs.declared.op.Op.{Op}
+use Rattle.rtm_deck_items.specs.declared.op.Op.TheVariants.{Abend, Abterm, Attachx, Branch, Detach, EstaexCt, EstaexOv, EstaexZero, Free, FrrAdd, FrrDelete, FrrPurge, FrrReplace, Get, IfClup, IfCode, IfPerc, Link, Memterm, MgrAdd, MgrDelete, Post, Return, Schedule, SetRp, Xctl}
 use Rattle.rtm_model.specs.declared.abort.Abort.{Abort}
 use Rattle.rtm_model.specs.declared.block.Place.{Place}
 use Rattle.rtm_model.specs.declared.entry.Entry.{Entry}
@@ -23,19 +23,19 @@ use Rattle.rtm_model.specs.declared.reg.Kind.TheVariants.{Estae, Estai, Frr, Mgr
 use Rattle.rtm_model.specs.declared.reg.Reg.{Reg}
 use Rattle.rtm_model.specs.Aborts.{after_landing, first_abort, with_abort}
 use Rattle.rtm_model.specs.Blocks.{after_return, cut_to, newest_birth, with_bracket, with_linked, with_place, with_program, without_bracket}
-use Rattle.rtm_model.specs.Chains.{after_xctl, cancelled, inherited, is_of_depth, overlaid, with_in_place, without_born, without_depth, without_first, without_owner}
-use Rattle.rtm_model.specs.Ending.{deleted, freed, got, without_manager, without_managers_of}
+use Rattle.rtm_model.specs.Chains.{after_cancel, after_overlay, after_xctl, inherited_estais, is_of_depth, with_in_place, without_born, without_depth, without_first, without_owner}
+use Rattle.rtm_model.specs.Ending.{after_delete, after_free, after_get, without_manager, without_managers_of}
 use Rattle.rtm_model.specs.Levels.{after_enter, after_error, after_leave, after_setrp, current, depth_in, error_in, is_frr, is_manager, outermost_alone, record_in}
 use Rattle.rtm_model.specs.NextEntry.{card_record, landed_record, retry_birth}
-use Rattle.rtm_model.specs.Outside.{is_late, managed}
+use Rattle.rtm_model.specs.Surroundings.{is_late, manager_task}
 use Rattle.rtm_model.specs.Record.{is_estai}
 use Rattle.rtm_model.specs.Tasks.{Life, Tree, is_subtask_of, with_birth, with_end, with_event}
-use Rattle.rtm_model.specs.World.{Beginning, Core, UnitOfWork, World, at_birth, core_at, on_unit, related_to, start}
+use Rattle.rtm_model.specs.World.{Beginning, Core, UnitOfWork, World, at_birth, core_at, on_unit, related_task, start}
 use Rattle.rtm_model.specs.declared.entry.Class.TheVariants as classes
 
 -- The births that cards make
 
--- request blocks are named by the entry that bears them, plus one: 0 is the one that lives from the start
+-- request blocks are named by the entry that makes them, plus one: 0 is the one that lives from the start
 abbrev pub block_birth : ℕ → ℕ
 block_birth n = n + 1
 
@@ -170,8 +170,8 @@ srb_abort n r = record {
 abbrev pub with_posted : Bool → Abort → UnitOfWork → UnitOfWork
 with_posted late abort unit = record unit { pending = with_abort late abort unit.pending }
 
-abbrev pub posted_to : ℕ → Abort → World → World
-posted_to u abort w = record w { units = on_unit u (with_posted (is_late w u) abort) w.units }
+abbrev pub post_to : ℕ → Abort → World → World
+post_to u abort w = record w { units = on_unit u (with_posted (is_late w u) abort) w.units }
 
 -- What a card changes of its own unit
 
@@ -180,8 +180,8 @@ abbrev pub next_place : Place → Place
 next_place place = record { prog = place.prog; op = place.op + 1 }
 
 -- the unit runs on at the place
-abbrev pub moved_to : Place → Core → Core
-moved_to place c = record c { blocks = with_place place c.blocks }
+abbrev pub move_to : Place → Core → Core
+move_to place c = record c { blocks = with_place place c.blocks }
 
 -- where a branch goes: to the operation that carries the label (this profile)
 abbrev pub label_place : DeckView → Place → List ℕ → Place
@@ -214,20 +214,20 @@ own_card n place Return c = record c {
   estaes = without_owner (newest_birth c.blocks) c.estaes;
 }
 own_card n place (EstaexCt prog term cancel xctl) c =
-    moved_to place (record c { estaes = new_estae n c prog term cancel xctl ∷ c.estaes })
-own_card n place (EstaexOv prog term cancel xctl) c = moved_to place (record c {
-  estaes = overlaid (depth_in c.levels) (newest_birth c.blocks) (new_estae n c prog term cancel xctl) c.estaes;
+    move_to place (record c { estaes = new_estae n c prog term cancel xctl ∷ c.estaes })
+own_card n place (EstaexOv prog term cancel xctl) c = move_to place (record c {
+  estaes = after_overlay (depth_in c.levels) (newest_birth c.blocks) (new_estae n c prog term cancel xctl) c.estaes;
 })
 own_card n place EstaexZero c =
-    moved_to place (record c { estaes = cancelled (depth_in c.levels) (newest_birth c.blocks) c.estaes })
-own_card n place (FrrAdd prog) c = moved_to place (record c { frrs = new_frr n c prog ∷ c.frrs })
+    move_to place (record c { estaes = after_cancel (depth_in c.levels) (newest_birth c.blocks) c.estaes })
+own_card n place (FrrAdd prog) c = move_to place (record c { frrs = new_frr n c prog ∷ c.frrs })
 own_card n place FrrDelete c =
-    moved_to place (record c { frrs = without_first (is_of_depth (depth_in c.levels)) c.frrs })
+    move_to place (record c { frrs = without_first (is_of_depth (depth_in c.levels)) c.frrs })
 own_card n place (FrrReplace prog) c =
-    moved_to place (record c { frrs = with_in_place (is_of_depth (depth_in c.levels)) (new_frr n c prog) c.frrs })
-own_card n place FrrPurge c = moved_to place (record c { frrs = without_depth (depth_in c.levels) c.frrs })
-own_card n place (SetRp setrp) c = moved_to place (record c { levels = after_setrp setrp c.levels })
-own_card n place _ c = moved_to place c
+    move_to place (record c { frrs = with_in_place (is_of_depth (depth_in c.levels)) (new_frr n c prog) c.frrs })
+own_card n place FrrPurge c = move_to place (record c { frrs = without_depth (depth_in c.levels) c.frrs })
+own_card n place (SetRp setrp) c = move_to place (record c { levels = after_setrp setrp c.levels })
+own_card n place _ c = move_to place c
 
 -- What other entries change of their own unit
 
@@ -257,19 +257,19 @@ with_landed (Some abort) c = record c {
 }
 
 -- the routine of that birth
-abbrev pub born_at : ℕ → List Reg → Option Reg
-born_at born regs = find (λ reg. reg.born == born) regs
+abbrev pub routine_born_at : ℕ → List Reg → Option Reg
+routine_born_at born regs = find (λ reg. reg.born == born) regs
 
 abbrev pub routine_named : Kind → ℕ → List Manager1 → Core → Option Reg
-routine_named Frr born managers c = born_at born c.frrs
-routine_named Estae born managers c = born_at born c.estaes
-routine_named Estai born managers c = born_at born c.estais
+routine_named Frr born managers c = routine_born_at born c.frrs
+routine_named Estae born managers c = routine_born_at born c.estaes
+routine_named Estai born managers c = routine_born_at born c.estais
 routine_named Mgr born managers c = option_map manager_routine (find (λ manager. manager.born == born) managers)
 
 -- a routine is entered: a bracket is opened for it, with one request block at its first operation
-abbrev pub entered : ℕ → Option Reg → Core → Core
-entered n None c = c
-entered n (Some reg) c = record c {
+abbrev pub with_routine_entered : ℕ → Option Reg → Core → Core
+with_routine_entered n None c = c
+with_routine_entered n (Some reg) c = record c {
   blocks = with_bracket (block_birth n) reg.prog c.blocks;
   levels = after_enter reg c.levels;
 }
@@ -308,19 +308,19 @@ without_newer_owners born estaes = filter (λ reg. nat_le reg.owner born) estaes
 
 -- a retry: the newer request blocks of the error's bracket are gone, with their ESTAE routines, and the one under
 -- which the routine is retried goes on at the place (Authorized Assembler Services Guide, "Providing recovery")
-abbrev pub retried : Place → ℕ → Core → Core
-retried place born c = record c {
+abbrev pub with_retry : Place → ℕ → Core → Core
+with_retry place born c = record c {
   blocks = with_place place (cut_to born c.blocks);
   estaes = without_newer_owners born c.estaes;
 }
 
 abbrev pub after_retry : Verdict → Option Reg → Core → Core
-after_retry (Retry place) (Some reg) c = retried place (retry_birth reg c.blocks) c
+after_retry (Retry place) (Some reg) c = with_retry place (retry_birth reg c.blocks) c
 after_retry _ routine c = c
 
 -- the innermost bracket is closed: what was born in it is gone
-abbrev pub closed : Verdict → Core → Core
-closed verdict c = record c {
+abbrev pub with_bracket_closed : Verdict → Core → Core
+with_bracket_closed verdict c = record c {
   blocks = without_bracket c.blocks;
   levels = after_leave verdict c.levels;
   frrs = without_depth (depth_in c.levels) c.frrs;
@@ -336,14 +336,14 @@ without_routine verdict gone kind born c = record c {
 }
 
 -- a routine is left
-abbrev pub left_behind : Kind → ℕ → Verdict → Core → Core
-left_behind kind born verdict c =
+abbrev pub with_routine_left : Kind → ℕ → Verdict → Core → Core
+with_routine_left kind born verdict c =
     after_retry verdict (current c.levels)
-    (without_routine verdict (is_gone_after verdict (record_in c.levels)) kind born (closed verdict c))
+    (without_routine verdict (is_gone_after verdict (record_in c.levels)) kind born (with_bracket_closed verdict c))
 
 -- the unit begins to end: its request blocks, its error and its recovery routines are gone
-abbrev pub ending : Code → Core → Core
-ending code c = record {
+abbrev pub after_begin : Code → Core → Core
+after_begin code c = record {
   blocks = [];
   levels = outermost_alone;
   frrs = [];
@@ -359,9 +359,9 @@ own_entry d n managers abort (Exec at rc) c =
     own_card n (place_after d at rc (op_at d at.prog at.op)) (op_at d at.prog at.op) c
 own_entry d n managers abort (Error at mark) c = with_error (error_record c.doomed mark (op_at d at.prog at.op)) c
 own_entry d n managers abort (Land class from mark) c = with_landed abort c
-own_entry d n managers abort (Enter kind reg mark) c = entered n (routine_named kind reg managers c) c
-own_entry d n managers abort (Leave kind reg verdict logrec dump) c = left_behind kind reg verdict c
-own_entry d n managers abort (Begin code dump) c = ending code c
+own_entry d n managers abort (Enter kind reg mark) c = with_routine_entered n (routine_named kind reg managers c) c
+own_entry d n managers abort (Leave kind reg verdict logrec dump) c = with_routine_left kind reg verdict c
+own_entry d n managers abort (Begin code dump) c = after_begin code c
 own_entry d n managers abort _ c = c
 
 -- what it changes of the unit's pending aborts: a landed one is gone, and at the unit's end all are
@@ -386,23 +386,23 @@ with_unit d n unit mother estais w = record w {
 }
 
 -- ATTACHX: the task has the ESTAI routine that is named, then those of its mother
-abbrev pub attached : DeckView → ℕ → ℕ → ℕ → Option ℕ → Bool → World → World
-attached d n u unit estai term w =
-    with_unit d n unit (Some u) (inherited (new_estai n term estai) (Core.estais (core_at u w))) w
+abbrev pub after_attach : DeckView → ℕ → ℕ → ℕ → Option ℕ → Bool → World → World
+after_attach d n u unit estai term w =
+    with_unit d n unit (Some u) (inherited_estais (new_estai n term estai) (Core.estais (core_at u w))) w
 
 -- what a card that was executed with that return code changes of what units share, and of other units
 abbrev pub beyond_card : DeckView → ℕ → ℕ → ℕ → Op → World → World
 beyond_card d n u rc (Get class id) w =
-    record w { holdings = got (record { born = n; class = class; id = id; owner = u }) w.holdings }
-beyond_card d n u rc (Free class id) w = record w { holdings = freed u class id w.holdings }
-beyond_card d n u rc (Attachx unit estai term) w = if rc == 0 then attached d n u unit estai term w else w
+    record w { holdings = after_get (record { born = n; class = class; id = id; owner = u }) w.holdings }
+beyond_card d n u rc (Free class id) w = record w { holdings = after_free u class id w.holdings }
+beyond_card d n u rc (Attachx unit estai term) w = if rc == 0 then after_attach d n u unit estai term w else w
 beyond_card d n u rc (Schedule unit) w = if rc == 0 then with_unit d n unit None [] w else w
-beyond_card d n u rc (Detach unit stae) w = posted_to unit (detach_abort n stae) w
-beyond_card d n u rc (Abterm unit code reason dump retry) w = posted_to unit (abterm_abort n code reason dump retry) w
+beyond_card d n u rc (Detach unit stae) w = post_to unit (detach_abort n stae) w
+beyond_card d n u rc (Abterm unit code reason dump retry) w = post_to unit (abterm_abort n code reason dump retry) w
 beyond_card d n u rc (Memterm code) w = record w { memory_end = Some code }
 beyond_card d n u rc (MgrAdd prog space) w =
-    record w { managers = record { born = n; prog = prog; task = managed u space } ∷ w.managers }
-beyond_card d n u rc (MgrDelete prog space) w = record w { managers = deleted prog (managed u space) w.managers }
+    record w { managers = record { born = n; prog = prog; task = manager_task u space } ∷ w.managers }
+beyond_card d n u rc (MgrDelete prog space) w = record w { managers = after_delete prog (manager_task u space) w.managers }
 beyond_card d n u rc (Post event) w =
     record w { tree = record w.tree { events = with_event event (Tree.events w.tree) } }
 beyond_card d n u rc _ w = w
@@ -412,30 +412,30 @@ abbrev pub managers_left : Kind → ℕ → List Manager1 → List Manager1
 managers_left kind born managers = if is_manager kind then without_manager born managers else managers
 
 -- one more of the unit's commands has arrived
-abbrev pub counted : ℕ → World → World
-counted u w = record w { units = on_unit u (λ unit. record unit { arrived = unit.arrived + 1 }) w.units }
+abbrev pub count_arrival : ℕ → World → World
+count_arrival u w = record w { units = on_unit u (λ unit. record unit { arrived = unit.arrived + 1 }) w.units }
 
 -- a command has arrived, and posts the cancel of its target
-abbrev pub arrived_at : ℕ → ℕ → Option Command → World → World
-arrived_at n u None w = w
-arrived_at n u (Some command) w = counted u (posted_to u (cancel_abort n command.dump) w)
+abbrev pub after_arrival : ℕ → ℕ → Option Command → World → World
+after_arrival n u None w = w
+after_arrival n u (Some command) w = count_arrival u (post_to u (cancel_abort n command.dump) w)
 
 -- an abort is posted to each living subtask of a task, by number
-abbrev pub posted_to_subtasks : ℕ → Abort → List Life → List UnitOfWork → List UnitOfWork
-posted_to_subtasks u abort [] units = units
-posted_to_subtasks u abort (life ∷ lives) [] = []
-posted_to_subtasks u abort (life ∷ lives) (unit ∷ units) =
+abbrev pub post_to_subtasks : ℕ → Abort → List Life → List UnitOfWork → List UnitOfWork
+post_to_subtasks u abort [] units = units
+post_to_subtasks u abort (life ∷ lives) [] = []
+post_to_subtasks u abort (life ∷ lives) (unit ∷ units) =
     (if is_subtask_of u life then with_posted (is_some (Core.begun unit.core)) abort unit else unit)
-    ∷ posted_to_subtasks u abort lives units
+    ∷ post_to_subtasks u abort lives units
 
 -- the aborts that a unit's end posts
-abbrev pub posted_related : ℕ → Option ℕ → Option ErrorRecord → World → World
-posted_related n (Some task) (Some r) w = posted_to task (srb_abort n r) w
-posted_related n _ _ w = w
+abbrev pub post_related : ℕ → Option ℕ → Option ErrorRecord → World → World
+post_related n (Some task) (Some r) w = post_to task (srb_abort n r) w
+post_related n _ _ w = w
 
-abbrev pub posted_step : ℕ → Bool → ℕ → Option ErrorRecord → World → World
-posted_step n is_other job (Some r) w = if is_other && r.flags.step then posted_to job (step_abort n r) w else w
-posted_step n is_other job None w = w
+abbrev pub post_step : ℕ → Bool → ℕ → Option ErrorRecord → World → World
+post_step n is_other job (Some r) w = if is_other && r.flags.step then post_to job (step_abort n r) w else w
+post_step n is_other job None w = w
 
 -- the end of the job step task begins memory end, with its code
 abbrev pub memory_end_after : Bool → Code → Option Code → Option Code
@@ -448,10 +448,10 @@ without_living u code is_job w = record w {
 }
 
 -- a unit has ended, by the error of that record if by one
-abbrev pub ended : DeckView → ℕ → ℕ → Code → Option ErrorRecord → World → World
-ended d n u code cause w =
-    posted_step n (not (u == job_step d)) (job_step d) cause
-    (posted_related n (related_to d u) cause (without_living u code (u == job_step d) w))
+abbrev pub after_done : DeckView → ℕ → ℕ → Code → Option ErrorRecord → World → World
+after_done d n u code cause w =
+    post_step n (not (u == job_step d)) (job_step d) cause
+    (post_related n (related_task d u) cause (without_living u code (u == job_step d) w))
 
 -- the record of the error that led to the unit's end
 abbrev pub cause_of : Option Beginning → Option ErrorRecord
@@ -462,8 +462,8 @@ cause_of begun = option_and_then (λ begun. begun.cause) begun
 abbrev pub purged_core : Core → Core
 purged_core c = record c { blocks = []; levels = outermost_alone; frrs = []; estaes = []; estais = [] }
 
-abbrev pub purged : ℕ → World → World
-purged unit w = record w {
+abbrev pub after_purge : ℕ → World → World
+after_purge unit w = record w {
   units = on_unit unit (λ unit. record unit { core = purged_core unit.core; pending = [] }) w.units;
   tree = record w.tree { lives = with_end unit (Tree.lives w.tree) };
   managers = without_managers_of unit w.managers;
@@ -473,12 +473,12 @@ purged unit w = record w {
 abbrev pub beyond : DeckView → ℕ → ℕ → What → World → World
 beyond d n u (Exec at rc) w = beyond_card d n u rc (op_at d at.prog at.op) w
 beyond d n u (Leave kind reg verdict logrec dump) w = record w { managers = managers_left kind reg w.managers }
-beyond d n u (Arrive cmd _) w = arrived_at n u (slice_get d.commands cmd) w
+beyond d n u (Arrive cmd _) w = after_arrival n u (slice_get d.commands cmd) w
 beyond d n u (Begin code dump) w =
-    record w { units = posted_to_subtasks u (mother_abort n) (Tree.lives w.tree) w.units }
-beyond d n u (Release class id owner) w = record w { holdings = freed owner class id w.holdings }
-beyond d n u (Done code to_task to_step) w = ended d n u code (cause_of (Core.begun (core_at u w))) w
-beyond d n u (Purge unit) w = purged unit w
+    record w { units = post_to_subtasks u (mother_abort n) (Tree.lives w.tree) w.units }
+beyond d n u (Release class id owner) w = record w { holdings = after_free owner class id w.holdings }
+beyond d n u (Done code to_task to_step) w = after_done d n u code (cause_of (Core.begun (core_at u w))) w
+beyond d n u (Purge unit) w = after_purge unit w
 beyond d n u MemEnd w = record w { over = true }
 beyond d n u _ w = w
 

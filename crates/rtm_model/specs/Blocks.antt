@@ -127,9 +127,9 @@ abbrev pub after_return : List (List Block) → List (List Block)
 after_return brackets = if has_one_block brackets then brackets else in_newest_bracket without_newest brackets
 
 -- of a bracket the request blocks that are newer than the one of that birth are gone; nothing where it isn't there
-abbrev pub from_born : ℕ → List Block → List Block
-from_born born blocks = if is_some (find (is_block_of born) blocks) then from_first (is_block_of born) blocks else blocks
+abbrev pub from_birth : ℕ → List Block → List Block
+from_birth born blocks = if is_some (find (is_block_of born) blocks) then from_first (is_block_of born) blocks else blocks
 
 -- a retry under the request block of that birth (Authorized Assembler Services Guide, "Providing recovery")
 abbrev pub cut_to : ℕ → List (List Block) → List (List Block)
-cut_to born brackets = in_newest_bracket (from_born born) brackets
+cut_to born brackets = in_newest_bracket (from_birth born) brackets

@@ -4,9 +4,9 @@ use Rattle.std.specs.List.{list_any}
 use Rattle.std.specs.Option.{option_map_or}
 use Rattle.rtm_codes.specs.declared.code.Code.{Code}
 use Rattle.rtm_codes.specs.declared.code.Code.TheVariants.{Sys, User}
-use Rattle.rtm_items.specs.declared.op.Op.{Op}
-use Rattle.rtm_items.specs.declared.op.Op.TheVariants.{Abend, Abterm, Attachx, Branch, Detach, EstaexCt, EstaexOv, EstaexZero, Free, FrrAdd, FrrDelete, FrrPurge, FrrReplace, Get, IfClup, IfCode, IfPerc, Link, Memterm, MgrAdd, MgrDelete, Nop, Post, Return, Schedule, SetRp, Wait, WaitTask, Xctl}
-use Rattle.rtm_model.specs.declared.around.Around.{Around}
+use Rattle.rtm_deck_items.specs.declared.op.Op.{Op}
+use Rattle.rtm_deck_items.specs.declared.op.Op.TheVariants.{Abend, Abterm, Attachx, Branch, Detach, EstaexCt, EstaexOv, EstaexZero, Free, FrrAdd, FrrDelete, FrrPurge, FrrReplace, Get, IfClup, IfCode, IfPerc, Link, Memterm, MgrAdd, MgrDelete, Nop, Post, Return, Schedule, SetRp, Wait, WaitTask, Xctl}
+use Rattle.rtm_model.specs.declared.surroundings.Surroundings.{Surroundings}
 use Rattle.rtm_model.specs.declared.entry.Fate.{Fate}
 use Rattle.rtm_model.specs.declared.entry.Fate.TheVariants.{Late, Merged, Queued}
 use Rattle.rtm_model.specs.declared.error_record.ErrorRecord.{ErrorRecord}
@@ -15,7 +15,7 @@ use Rattle.rtm_model.specs.declared.outcome.Outcome.TheVariants.{Abends, Execute
 use Rattle.rtm_model.specs.declared.reg.Reg.{Reg}
 use Rattle.rtm_model.specs.Blocks.{has_full_bracket, has_one_block, newest_birth}
 use Rattle.rtm_model.specs.Chains.{newest_of, newest_owned}
-use Rattle.rtm_model.specs.Levels.{Level, depth_in, is_manager, record_in, recovers}
+use Rattle.rtm_model.specs.Levels.{Bracket, depth_in, is_manager, record_in, recovers}
 use Rattle.rtm_model.specs.World.{Core}
 
 -- System completion codes of cards that stand where they may not, or find no room. 07D, 0F8 and 23E are those of MVS
@@ -94,11 +94,11 @@ manages None = false
 manages (Some reg) = is_manager reg.kind
 
 -- some bracket of the unit is a resource manager's
-abbrev pub in_manager : List Level → Bool
+abbrev pub in_manager : List Bracket → Bool
 in_manager levels = list_any (λ level. manages level.routine) levels
 
 -- the card's error of mode: the first that applies
-abbrev pub mode_error : Core → Around → Op → Option Code
+abbrev pub mode_error : Core → Surroundings → Op → Option Code
 mode_error c a op =
     if wants_task op && (a.srb || has_frr c.frrs) then Some wrong_mode
     else if wants_no_manager op && in_manager c.levels then Some wrong_mode
@@ -130,20 +130,20 @@ fate_rc Merged = 4
 fate_rc Late = 8
 
 -- the unit's innermost bracket is its 16th, in which no recovery routine is made (this profile)
-abbrev pub is_deepest : List Level → Bool
+abbrev pub is_deepest : List Bracket → Bool
 is_deepest levels = nat_le 15 (depth_in levels)
 
 -- SETFRR A: at most 16 FRRs of a unit live (this profile; Authorized Assembler Services Reference, SETFRR)
-abbrev pub frr_row : List Level → List Reg → Outcome
+abbrev pub frr_row : List Bracket → List Reg → Outcome
 frr_row levels frrs = if is_deepest levels then fails too_deep else unless (length frrs == 16) too_many_frrs
 
 -- ESTAEX CT: at most 64 ESTAE routines of a unit live (this profile; Assembler Services Reference, ESTAEX)
-abbrev pub estae_row : List Level → List Reg → Outcome
+abbrev pub estae_row : List Bracket → List Reg → Outcome
 estae_row levels estaes = if is_deepest levels then fails too_deep else unless (length estaes == 64) too_many_estaes
 
 -- ESTAEX OV and ESTAEX 0 speak of the bracket's newest ESTAE routine, if the request block that runs has made it
-abbrev pub owned_here : Core → Option Reg
-owned_here c = newest_owned (depth_in c.levels) (newest_birth c.blocks) c.estaes
+abbrev pub newest_owned_here : Core → Option Reg
+newest_owned_here c = newest_owned (depth_in c.levels) (newest_birth c.blocks) c.estaes
 
 -- SETFRR D and R speak of the bracket's newest FRR
 abbrev pub frr_here : Core → Option Reg
@@ -159,7 +159,7 @@ abbrev pub branch_row : (ErrorRecord → Bool) → Option ErrorRecord → Outcom
 branch_row test r = Executed (if option_map_or test r false then 4 else 0)
 
 -- the card's row: what it does where no error of mode applies
-abbrev pub row : Core → Around → Op → Outcome
+abbrev pub row : Core → Surroundings → Op → Outcome
 row c a Nop = Executed 0
 row c a (Get class id) = unless a.crowded too_many_holdings
 row c a (Free class id) = Executed (rc_if a.found 4)
@@ -168,8 +168,8 @@ row c a (Xctl prog) = Executed 0
 row c a Return = if has_one_block c.blocks then Returns else Executed 0
 row c a (Abend code reason dump step) = Abends code reason dump step
 row c a (EstaexCt prog term cancel xctl) = estae_row c.levels c.estaes
-row c a (EstaexOv prog term cancel xctl) = Executed (rc_if (is_some (owned_here c)) 8)
-row c a EstaexZero = Executed (rc_if (is_some (owned_here c)) 8)
+row c a (EstaexOv prog term cancel xctl) = Executed (rc_if (is_some (newest_owned_here c)) 8)
+row c a EstaexZero = Executed (rc_if (is_some (newest_owned_here c)) 8)
 row c a (FrrAdd prog) = frr_row c.levels c.frrs
 row c a FrrDelete = Executed (rc_if (is_some (frr_here c)) 4)
 row c a (FrrReplace prog) = Executed (rc_if (is_some (frr_here c)) 4)
@@ -196,5 +196,5 @@ outcome_by (Some code) other = fails code
 outcome_by None other = other
 
 -- what the card does
-abbrev pub outcome : Core → Around → Op → Outcome
+abbrev pub outcome : Core → Surroundings → Op → Outcome
 outcome c a op = outcome_by (mode_error c a op) (row c a op)

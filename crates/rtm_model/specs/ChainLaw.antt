@@ -5,7 +5,7 @@
 use Rattle.std.specs.Prelude.{Bool, IsSome, IsTrue, List, None, Option, Some, [], drop, false, filter, find, if◌then◌else◌, is_some, length, nat_lt, not, take, true, ℕ, ◌&&◌, ◌++◌, ◌+◌, ◌==◌, ◌∷◌, ◌≡◌, ◌||◌}
 use Rattle.std.specs.List.{list_any}
 use Rattle.std.specs.Option.{option_and_then, option_map, option_map_or}
-use Rattle.rtm_items.specs.View.{DeckView}
+use Rattle.rtm_deck_items.specs.View.{DeckView}
 use Rattle.rtm_model.specs.declared.entry.Entry.{Entry}
 use Rattle.rtm_model.specs.declared.entry.Verdict.{Verdict}
 use Rattle.rtm_model.specs.declared.entry.Verdict.TheVariants.{Fail, Retry, Stop}
@@ -16,7 +16,7 @@ use Rattle.rtm_model.specs.declared.reg.Reg.{Reg}
 use Rattle.rtm_model.specs.Births.{world}
 use Rattle.rtm_model.specs.Course.{course_of, is_fail, is_valid_retry, opens_error}
 use Rattle.rtm_model.specs.Eligible.{AreDistinct, AreFalling, bracket_list, is_named, is_same_kind, list_of}
-use Rattle.rtm_model.specs.Entries.{Bracket, Opening, bracket, brackets_after, brackets_of, enclosing_brackets, error_at, is_open, outermost_bracket}
+use Rattle.rtm_model.specs.Entries.{OpenBracket, Opening, bracket, brackets_after, brackets_of, enclosing_brackets, error_at, is_open, outermost_bracket}
 use Rattle.rtm_model.specs.Levels.{error_in, record_in}
 use Rattle.rtm_model.specs.Moments.{IsAt, core_before}
 use Rattle.rtm_model.specs.Tasks.{is_number}
@@ -25,18 +25,18 @@ use Rattle.rtm_model.specs.World.{core_at}
 -- The chain of an error
 
 -- the ENTER of that index
-abbrev pub entered_at : ℕ → What → List Opening
-entered_at n (Enter kind born mark) = record { at = n; kind = kind; born = born } ∷ []
-entered_at n _ = []
+abbrev pub opening_at : ℕ → What → List Opening
+opening_at n (Enter kind born mark) = record { at = n; kind = kind; born = born } ∷ []
+opening_at n _ = []
 
 -- the entry is made where the error is open in the unit's innermost bracket
-abbrev pub is_made_for : ℕ → ℕ → Entry → List Bracket → Bool
+abbrev pub is_made_for : ℕ → ℕ → Entry → List OpenBracket → Bool
 is_made_for error u e brackets = (e.unit == u) && is_number error (error_at brackets)
 
-abbrev pub chain_from : ℕ → ℕ → ℕ → List Bracket → List Entry → List Opening
+abbrev pub chain_from : ℕ → ℕ → ℕ → List OpenBracket → List Entry → List Opening
 chain_from error u n brackets [] = []
 chain_from error u n brackets (e ∷ es) =
-    (if is_made_for error u e brackets then entered_at n e.what else [])
+    (if is_made_for error u e brackets then opening_at n e.what else [])
     ++ chain_from error u (n + 1) (brackets_after u n e brackets) es
 
 -- the ENTERs that are made for the error, in order
@@ -50,15 +50,15 @@ pub record Leaving : Type 0 where
   pub born : ℕ
   pub verdict : Verdict
 
-abbrev pub left_at : ℕ → What → List Leaving
-left_at n (Leave kind born verdict logrec dump) =
+abbrev pub leaving_at : ℕ → What → List Leaving
+leaving_at n (Leave kind born verdict logrec dump) =
     record { at = n; kind = kind; born = born; verdict = verdict } ∷ []
-left_at n _ = []
+leaving_at n _ = []
 
-abbrev pub leavings_from : ℕ → ℕ → ℕ → List Bracket → List Entry → List Leaving
+abbrev pub leavings_from : ℕ → ℕ → ℕ → List OpenBracket → List Entry → List Leaving
 leavings_from error u n brackets [] = []
 leavings_from error u n brackets (e ∷ es) =
-    (if is_made_for error u e (enclosing_brackets brackets) then left_at n e.what else [])
+    (if is_made_for error u e (enclosing_brackets brackets) then leaving_at n e.what else [])
     ++ leavings_from error u (n + 1) (brackets_after u n e brackets) es
 
 -- the LEAVEs of routines that were entered for the error, in order
@@ -89,8 +89,8 @@ abbrev pub forces_end : DeckView → List Entry → ℕ → Leaving → Bool
 forces_end d history u leaving = is_fail leaving.verdict && is_term_only d history leaving.at u
 
 -- the index of the first such LEAVE
-abbrev pub forced_at : DeckView → List Entry → ℕ → ℕ → Option ℕ
-forced_at d history error u =
+abbrev pub forced_end_at : DeckView → List Entry → ℕ → ℕ → Option ℕ
+forced_end_at d history error u =
     option_map (λ (l : Leaving). l.at) (find (forces_end d history u) (leavings error u history))
 
 -- the part of the chain before that LEAVE, and the part after it
@@ -98,22 +98,22 @@ abbrev pub is_before : Option ℕ → Opening → Bool
 is_before forced opening = option_map_or (nat_lt opening.at) forced true
 
 abbrev pub free_chain : DeckView → List Entry → ℕ → ℕ → List Opening
-free_chain d history error u = filter (is_before (forced_at d history error u)) (chain error u history)
+free_chain d history error u = filter (is_before (forced_end_at d history error u)) (chain error u history)
 
 abbrev pub forced_chain : DeckView → List Entry → ℕ → ℕ → List Opening
 forced_chain d history error u =
-    filter (λ opening. not (is_before (forced_at d history error u) opening)) (chain error u history)
+    filter (λ opening. not (is_before (forced_end_at d history error u) opening)) (chain error u history)
 
 -- from such a failure on, those with TERM=YES alone
-abbrev pub admitted_after : Option ℕ → List Reg → List Reg
-admitted_after None regs = regs
-admitted_after (Some forced) regs = filter (λ reg. reg.term) regs
+abbrev pub routines_after : Option ℕ → List Reg → List Reg
+routines_after None regs = regs
+routines_after (Some forced) regs = filter (λ reg. reg.term) regs
 
 -- what is left of the list: none where the chain goes another way
-abbrev pub left_of : DeckView → List Entry → ℕ → ℕ → Option (List Reg)
-left_of d history error u =
+abbrev pub rest_of_list : DeckView → List Entry → ℕ → ℕ → Option (List Reg)
+rest_of_list d history error u =
     option_and_then
-    (λ rest. rest_after (forced_chain d history error u) (admitted_after (forced_at d history error u) rest))
+    (λ rest. rest_after (forced_chain d history error u) (routines_after (forced_end_at d history error u) rest))
     (rest_after (free_chain d history error u) (list_of d history error u))
 
 -- no two of the chain have one name
@@ -129,7 +129,7 @@ are_entered_once (opening ∷ later) = not (list_any (is_opening_of opening) lat
 -- the whole list was entered and left
 abbrev pub is_used_up : DeckView → List Entry → ℕ → ℕ → Bool
 is_used_up d history error u =
-    option_map_or (λ regs. length regs == 0) (left_of d history error u) false
+    option_map_or (λ regs. length regs == 0) (rest_of_list d history error u) false
     && (length (chain error u history) == length (leavings error u history))
 
 -- its last routine has said Stop
@@ -153,7 +153,7 @@ abbrev pub is_outside : Option Opening → Bool
 is_outside opening = option_map_or (λ opening. false) opening true
 
 -- the innermost bracket is that of a routine which was entered for the error
-abbrev pub is_entered_for : ℕ → List Bracket → Bool
+abbrev pub is_entered_for : ℕ → List OpenBracket → Bool
 is_entered_for error brackets = is_number error (error_at (enclosing_brackets brackets))
 
 -- A LEAVE with that verdict ends it: with Retry of the routine that was entered for it last and runs, whose record has
@@ -192,7 +192,7 @@ ends_rightly_from d history error u k (e ∷ es) =
 -- same names, it ends in one of the ways, and it has a course
 abbrev pub keeps_chain : DeckView → List Entry → ℕ → ℕ → Bool
 keeps_chain d history error u =
-    is_some (left_of d history error u) && are_entered_once (chain error u history)
+    is_some (rest_of_list d history error u) && are_entered_once (chain error u history)
     && are_left (chain error u history) (leavings error u history)
     && ends_rightly_from d history error u (error + 1) (drop (error + 1) history)
     && is_some (course_of d history error u)
@@ -215,7 +215,7 @@ pub record IsChained (d : DeckView) (history : List Entry) (i u : ℕ) : Type 0 
   -- until a routine has failed by a TERM-only error, the chain is a prefix of the list
   pub free : IsSome (rest_after (free_chain d history i u) (list_of d history i u))
   -- and from then on it goes on with a prefix of those of the rest that have TERM=YES
-  pub forced : IsSome (left_of d history i u)
+  pub forced : IsSome (rest_of_list d history i u)
   -- no routine stands twice in the chain, and each is left under its own name
   pub once : IsTrue (are_entered_once (chain i u history))
   pub left : IsTrue (are_left (chain i u history) (leavings i u history))

@@ -40,13 +40,13 @@ abbrev pub newest_owned : ℕ → ℕ → List Reg → Option Reg
 newest_owned depth owner regs = if_of_owner owner (newest_of depth regs)
 
 -- what ESTAEX 0 leaves: that routine is gone (Assembler Services Reference, ESTAEX)
-abbrev pub cancelled : ℕ → ℕ → List Reg → List Reg
-cancelled depth owner regs =
+abbrev pub after_cancel : ℕ → ℕ → List Reg → List Reg
+after_cancel depth owner regs =
     if is_some (newest_owned depth owner regs) then without_first (is_of_depth depth) regs else regs
 
 -- what ESTAEX OV leaves: the new routine stands in the place of that one (Assembler Services Reference, ESTAEX)
-abbrev pub overlaid : ℕ → ℕ → Reg → List Reg → List Reg
-overlaid depth owner reg regs =
+abbrev pub after_overlay : ℕ → ℕ → Reg → List Reg → List Reg
+after_overlay depth owner reg regs =
     if is_some (newest_owned depth owner regs) then with_in_place (is_of_depth depth) reg regs else regs
 
 -- the ESTAE routine that gets control next: the newest of the bracket that is admitted
@@ -77,6 +77,6 @@ after_xctl owner regs = filter (λ reg. not (is_of_owner owner reg) || reg.xctl)
 
 -- the ESTAI routines of a task at its birth: its own first, then those that its mother has
 -- (Assembler Services Reference, ATTACHX; the order is this profile's)
-abbrev pub inherited : Option Reg → List Reg → List Reg
-inherited None mother = mother
-inherited (Some own) mother = own ∷ mother
+abbrev pub inherited_estais : Option Reg → List Reg → List Reg
+inherited_estais None mother = mother
+inherited_estais (Some own) mother = own ∷ mother

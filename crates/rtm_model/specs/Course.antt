@@ -3,7 +3,7 @@
 -- its bracket: which entries are its own is read off by counting the brackets that open and close inside that one.
 use Rattle.std.specs.Prelude.{Bool, IsSome, List, None, Option, Some, [], drop, false, filter, if◌then◌else◌, length, not, true, ℕ, ◌&&◌, ◌+◌, ◌-◌, ◌==◌, ◌∷◌, ◌≡◌}
 use Rattle.std.specs.Option.{option_and_then, option_map, option_map_or}
-use Rattle.rtm_items.specs.View.{DeckView}
+use Rattle.rtm_deck_items.specs.View.{DeckView}
 use Rattle.rtm_model.specs.declared.entry.Entry.{Entry}
 use Rattle.rtm_model.specs.declared.entry.Verdict.{Verdict}
 use Rattle.rtm_model.specs.declared.entry.Verdict.TheVariants.{Bad, Fail, Over, Perc, Retry, Stop}
@@ -29,13 +29,13 @@ pub data Course : Type 0 where
   Closed : Course
 
 -- it ends where that holds, and else the law is broken
-abbrev pub closed_if : Bool → Option Course
-closed_if holds = if holds then Some Closed else None
+abbrev pub close_if : Bool → Option Course
+close_if holds = if holds then Some Closed else None
 
 -- the first of the list is entered
-abbrev pub entered_for : Kind → ℕ → List Reg → Option Course
-entered_for kind born [] = None
-entered_for kind born (reg ∷ left) = if is_named kind born reg then Some (Runs reg left 0) else None
+abbrev pub enter_first : Kind → ℕ → List Reg → Option Course
+enter_first kind born [] = None
+enter_first kind born (reg ∷ left) = if is_named kind born reg then Some (Runs reg left 0) else None
 
 abbrev pub is_fail : Verdict → Bool
 is_fail Fail = true
@@ -49,19 +49,19 @@ has_failed c kind born verdict left =
 -- The error's bracket is the innermost: its next routine is entered; or, where none is left, the bracket's own
 -- routine has failed, or in the outermost bracket the unit begins to end.
 abbrev pub at_error : Core → What → List Reg → Option Course
-at_error c (Enter kind born mark) left = entered_for kind born left
-at_error c (Leave kind born verdict logrec dump) left = closed_if (has_failed c kind born verdict left)
-at_error c (Begin code dump) left = closed_if (is_outermost c.levels && (length left == 0))
+at_error c (Enter kind born mark) left = enter_first kind born left
+at_error c (Leave kind born verdict logrec dump) left = close_if (has_failed c kind born verdict left)
+at_error c (Begin code dump) left = close_if (is_outermost c.levels && (length left == 0))
 at_error c (Arrive cmd _) left = Some (Goes left)
 at_error c _ left = None
 
 -- what is left after a routine has failed: by an error that admits routines with TERM=YES alone, those; it fails by an
 -- error alone
-abbrev pub left_by : ErrorRecord → List Reg → List Reg
-left_by inner left = if inner.flags.term_only then filter (λ reg. reg.term) left else left
+abbrev pub rest_by : ErrorRecord → List Reg → List Reg
+rest_by inner left = if inner.flags.term_only then filter (λ reg. reg.term) left else left
 
 abbrev pub after_failing : Option ErrorRecord → List Reg → Option Course
-after_failing inner left = option_map (λ r. Goes (left_by r left)) inner
+after_failing inner left = option_map (λ r. Goes (rest_by r left)) inner
 
 -- a retry is asked for by RC=4, and not forbidden
 abbrev pub is_valid_retry : Option ErrorRecord → Bool
@@ -69,7 +69,7 @@ is_valid_retry r = option_map_or (λ r. (r.rc == 4) && not r.flags.clup) r false
 
 -- its routine has come to an end
 abbrev pub after_routine : Core → Verdict → List Reg → Option Course
-after_routine c (Retry place) left = closed_if (is_valid_retry (record_in c.levels))
+after_routine c (Retry place) left = close_if (is_valid_retry (record_in c.levels))
 after_routine c Stop left = Some Stopped
 after_routine c Perc left = Some (Goes left)
 after_routine c Bad left = Some (Goes left)
@@ -104,7 +104,7 @@ runs_on c what routine left inside =
 
 -- after a Stop the unit begins to end
 abbrev pub after_stop : Core → What → Option Course
-after_stop c (Begin code dump) = closed_if (is_outermost c.levels)
+after_stop c (Begin code dump) = close_if (is_outermost c.levels)
 after_stop c (Arrive cmd _) = Some Stopped
 after_stop c _ = None
 

@@ -3,8 +3,8 @@
 use Rattle.std.specs.Prelude.{ℕ, ◌+◌, ◌<◌, Bool, true, false, not, ◌&&◌, ◌==◌, nat_lt, if◌then◌else◌, List, [], ◌∷◌, length, map, filter, find, fold, slice_get, slice_index_or, slice_set, Option, Some, None}
 use Rattle.std.specs.Option.{option_or}
 use Rattle.std.specs.List.{AllByRecursion}
-use Rattle.rtm_operands.specs.declared.value.Res.{Res}
-use Rattle.rtm_operands.specs.declared.value.Res.TheVariants.{Enq, Stor, Dsn, Timr}
+use Rattle.rtm_deck_operands.specs.declared.value.Res.{Res}
+use Rattle.rtm_deck_operands.specs.declared.value.Res.TheVariants.{Enq, Stor, Dsn, Timr}
 use Rattle.rtm_model.specs.declared.holding.Holding.{Holding}
 use Rattle.rtm_model.specs.declared.holding.Manager1.{Manager1}
 use Rattle.rtm_model.specs.Chains.{without_first}
@@ -41,16 +41,16 @@ abbrev pub held_count : Holdings → ℕ
 held_count held = length held.enq + length held.stor + length held.dsn + length held.timr
 
 -- what the owner of that number holds; in a list of owners the master comes last
-abbrev pub held_by : ℕ → List Holdings → Holdings
-held_by owner owners = slice_index_or owners owner no_holdings
+abbrev pub holdings_of : ℕ → List Holdings → Holdings
+holdings_of owner owners = slice_index_or owners owner no_holdings
 
 -- what the owner of that number holds, changed
 abbrev pub on_owner : ℕ → (Holdings → Holdings) → List Holdings → List Holdings
-on_owner owner f owners = slice_set owners owner (f (held_by owner owners))
+on_owner owner f owners = slice_set owners owner (f (holdings_of owner owners))
 
 -- what GET leaves: one more holding, the newest of its owner and class
-abbrev pub got : Holding → List Holdings → List Holdings
-got holding owners = on_owner holding.owner (on_class holding.class (λ held. holding ∷ held)) owners
+abbrev pub after_get : Holding → List Holdings → List Holdings
+after_get holding owners = on_owner holding.owner (on_class holding.class (λ held. holding ∷ held)) owners
 
 -- the holding is of the resource of that number
 abbrev pub is_of_id : ℕ → Holding → Bool
@@ -58,11 +58,11 @@ is_of_id id holding = holding.id == id
 
 -- the holding that FREE speaks of: the newest of that owner, class and number
 abbrev pub newest_equal : ℕ → Res → ℕ → List Holdings → Option Holding
-newest_equal owner class id owners = find (is_of_id id) (of_class class (held_by owner owners))
+newest_equal owner class id owners = find (is_of_id id) (of_class class (holdings_of owner owners))
 
 -- what FREE leaves: that holding is gone
-abbrev pub freed : ℕ → Res → ℕ → List Holdings → List Holdings
-freed owner class id owners = on_owner owner (on_class class (without_first (is_of_id id))) owners
+abbrev pub after_free : ℕ → Res → ℕ → List Holdings → List Holdings
+after_free owner class id owners = on_owner owner (on_class class (without_first (is_of_id id))) owners
 
 -- the first that is there, in the order of classes
 abbrev pub first_by_class : (Res → Option Holding) → Option Holding
@@ -73,19 +73,19 @@ abbrev pub newest_held : Res → Holdings → Option Holding
 newest_held class held = slice_get (of_class class held) 0
 
 -- the newer of two holdings, by their births
-abbrev pub newer : Option Holding → Option Holding → Option Holding
-newer None b = b
-newer (Some a) None = Some a
-newer (Some a) (Some b) = if nat_lt a.born b.born then Some b else Some a
+abbrev pub newer_holding : Option Holding → Option Holding → Option Holding
+newer_holding None b = b
+newer_holding (Some a) None = Some a
+newer_holding (Some a) (Some b) = if nat_lt a.born b.born then Some b else Some a
 
 -- the newest holding of a class, of all owners
 abbrev pub newest_of_all : Res → List Holdings → Option Holding
-newest_of_all class owners = fold newer None (map (newest_held class) owners)
+newest_of_all class owners = fold newer_holding None (map (newest_held class) owners)
 
 -- the holding that is released next when the owner of that number ends, or, with no number, when the address space ends: the
 -- first by class, then the newest (this profile)
 abbrev pub next_release : Option ℕ → List Holdings → Option Holding
-next_release (Some owner) owners = first_by_class (λ class. newest_held class (held_by owner owners))
+next_release (Some owner) owners = first_by_class (λ class. newest_held class (holdings_of owner owners))
 next_release None owners = first_by_class (λ class. newest_of_all class owners)
 
 -- without the holding that was born at that entry
@@ -93,8 +93,8 @@ abbrev pub without_holding : ℕ → List Holding → List Holding
 without_holding born held = filter (λ holding. not (holding.born == born)) held
 
 -- an owner without the holding that was born at that entry
-abbrev pub released_of : ℕ → Holdings → Holdings
-released_of born held = record {
+abbrev pub owner_after_release : ℕ → Holdings → Holdings
+owner_after_release born held = record {
   enq = without_holding born held.enq;
   stor = without_holding born held.stor;
   dsn = without_holding born held.dsn;
@@ -102,9 +102,9 @@ released_of born held = record {
 }
 
 -- what a release leaves: the holding that was born at that entry is gone, whoever had it. (The machine says the same step by
--- owner, class and number: freed.)
-abbrev pub released : ℕ → List Holdings → List Holdings
-released born owners = map (released_of born) owners
+-- owner, class and number: after_free.)
+abbrev pub after_release : ℕ → List Holdings → List Holdings
+after_release born owners = map (owner_after_release born) owners
 
 -- each holding of the list was born before that entry
 abbrev pub AreBornBefore : ℕ → List Holding → Type 0
@@ -143,8 +143,8 @@ abbrev pub newest_manager : ℕ → Option ℕ → List Manager1 → Option Mana
 newest_manager prog task managers = find (is_equal_manager prog task) managers
 
 -- what RESMGR DELETE leaves: that manager is gone
-abbrev pub deleted : ℕ → Option ℕ → List Manager1 → List Manager1
-deleted prog task managers = without_first (is_equal_manager prog task) managers
+abbrev pub after_delete : ℕ → Option ℕ → List Manager1 → List Manager1
+after_delete prog task managers = without_first (is_equal_manager prog task) managers
 
 -- the manager that gets control next when that task, or the address space, ends: the newest
 abbrev pub next_manager : Option ℕ → List Manager1 → Option Manager1

@@ -4,10 +4,10 @@
 use Rattle.std.specs.Prelude.{Bool, IsTrue, List, None, Option, Some, [], false, if◌then◌else◌, not, slice_get, true, ℕ, ◌&&◌, ◌+◌, ◌==◌, ◌||◌, ◌∷◌, ◌≡◌}
 use Rattle.std.specs.List.{filter_map, list_any}
 use Rattle.std.specs.Option.{option_and_then, option_map_or}
-use Rattle.rtm_items.specs.Reading.{job_step, op_at}
-use Rattle.rtm_items.specs.View.{DeckView}
-use Rattle.rtm_items.specs.declared.op.Op.{Op}
-use Rattle.rtm_items.specs.declared.op.Op.TheVariants.{Abterm, EstaexCt, EstaexOv, Memterm}
+use Rattle.rtm_deck_items.specs.Reading.{job_step, op_at}
+use Rattle.rtm_deck_items.specs.View.{DeckView}
+use Rattle.rtm_deck_items.specs.declared.op.Op.{Op}
+use Rattle.rtm_deck_items.specs.declared.op.Op.TheVariants.{Abterm, EstaexCt, EstaexOv, Memterm}
 use Rattle.rtm_model.specs.declared.entry.Class.{Class}
 use Rattle.rtm_model.specs.declared.entry.Entry.{Entry}
 use Rattle.rtm_model.specs.declared.entry.Verdict.{Verdict}
@@ -29,30 +29,30 @@ pub record Opening : Type 0 where
   pub born : ℕ
 
 -- a bracket: the ENTER that opened it, none in the outermost; and the ERROR or LAND whose error is open in it
-pub record Bracket : Type 0 where
+pub record OpenBracket : Type 0 where
   pub opening : Option Opening
   pub error : Option ℕ
 
-abbrev pub outermost_bracket : List Bracket
+abbrev pub outermost_bracket : List OpenBracket
 outermost_bracket = record { opening = None; error = None } ∷ []
 
 -- that error is open in the innermost bracket, or none
-abbrev pub with_error_at : Option ℕ → List Bracket → List Bracket
+abbrev pub with_error_at : Option ℕ → List OpenBracket → List OpenBracket
 with_error_at error [] = []
 with_error_at error (b ∷ outer) = record b { error = error } ∷ outer
 
 -- what encloses the innermost bracket
-abbrev pub enclosing_brackets : List Bracket → List Bracket
+abbrev pub enclosing_brackets : List OpenBracket → List OpenBracket
 enclosing_brackets [] = []
 enclosing_brackets (b ∷ outer) = outer
 
 -- its routine is left: after a retry the error that the routine was entered for is over
-abbrev pub brackets_left : Verdict → List Bracket → List Bracket
+abbrev pub brackets_left : Verdict → List OpenBracket → List OpenBracket
 brackets_left (Retry place) brackets = with_error_at None brackets
 brackets_left _ brackets = brackets
 
 -- the unit's brackets after an entry of its own, of the index n
-abbrev pub own_brackets : ℕ → What → List Bracket → List Bracket
+abbrev pub own_brackets : ℕ → What → List OpenBracket → List OpenBracket
 own_brackets n (Error at mark) brackets = with_error_at (Some n) brackets
 own_brackets n (Land class from mark) brackets = with_error_at (Some n) brackets
 own_brackets n (Enter kind born mark) brackets =
@@ -66,26 +66,26 @@ abbrev pub purges : ℕ → What → Bool
 purges u (Purge unit) = unit == u
 purges u _ = false
 
-abbrev pub brackets_after : ℕ → ℕ → Entry → List Bracket → List Bracket
+abbrev pub brackets_after : ℕ → ℕ → Entry → List OpenBracket → List OpenBracket
 brackets_after u n e brackets =
     if purges u e.what then outermost_bracket
     else if e.unit == u then own_brackets n e.what brackets
     else brackets
 
-abbrev pub brackets_from : ℕ → ℕ → List Entry → List Bracket → List Bracket
+abbrev pub brackets_from : ℕ → ℕ → List Entry → List OpenBracket → List OpenBracket
 brackets_from u n [] brackets = brackets
 brackets_from u n (e ∷ es) brackets = brackets_from u (n + 1) es (brackets_after u n e brackets)
 
 -- the unit's brackets after a history, the innermost first
-abbrev pub brackets_of : ℕ → List Entry → List Bracket
+abbrev pub brackets_of : ℕ → List Entry → List OpenBracket
 brackets_of u history = brackets_from u 0 history outermost_bracket
 
 -- the ENTERs of the unit that have neither their LEAVE nor its PURGE after them, the newest first
 abbrev pub open_enters : ℕ → List Entry → List Opening
-open_enters u history = filter_map (λ (b : Bracket). b.opening) (brackets_of u history)
+open_enters u history = filter_map (λ (b : OpenBracket). b.opening) (brackets_of u history)
 
 -- the ENTER of the innermost bracket; none for the outermost
-abbrev pub opening_in : List Bracket → Option Opening
+abbrev pub opening_in : List OpenBracket → Option Opening
 opening_in [] = None
 opening_in (b ∷ outer) = b.opening
 
@@ -93,7 +93,7 @@ abbrev pub bracket : ℕ → List Entry → Option Opening
 bracket u history = opening_in (brackets_of u history)
 
 -- the entry whose error is open in the innermost bracket
-abbrev pub error_at : List Bracket → Option ℕ
+abbrev pub error_at : List OpenBracket → Option ℕ
 error_at [] = None
 error_at (b ∷ outer) = b.error
 
@@ -102,7 +102,7 @@ open_error u history = error_at (brackets_of u history)
 
 -- the error that was born at that entry is open in some bracket of the unit
 abbrev pub is_open : ℕ → ℕ → List Entry → Bool
-is_open error u history = list_any (λ (b : Bracket). is_number error b.error) (brackets_of u history)
+is_open error u history = list_any (λ (b : OpenBracket). is_number error b.error) (brackets_of u history)
 
 -- A unit that has begun to end
 
@@ -126,8 +126,8 @@ abbrev pub executed_op : DeckView → What → Option Op
 executed_op d (Exec at rc) = Some (op_at d at.prog at.op)
 executed_op d _ = None
 
-abbrev pub executed_at : DeckView → List Entry → ℕ → Option Op
-executed_at d history i = option_and_then (λ (e : Entry). executed_op d e.what) (slice_get history i)
+abbrev pub op_executed_at : DeckView → List Entry → ℕ → Option Op
+op_executed_at d history i = option_and_then (λ (e : Entry). executed_op d e.what) (slice_get history i)
 
 -- an abort of that class that was posted at that entry forbids retry: a CANCEL, a DETACH, one that a mother's end or
 -- the end of the job step posts, and an ABTERM whose card says so
@@ -137,7 +137,7 @@ class_forbids_retry classes.Srb op = false
 class_forbids_retry _ op = true
 
 abbrev pub forbids_retry : DeckView → List Entry → Class → ℕ → Bool
-forbids_retry d history class from = class_forbids_retry class (executed_at d history from)
+forbids_retry d history class from = class_forbids_retry class (op_executed_at d history from)
 
 abbrev pub ForbidsRetry : DeckView → List Entry → Class → ℕ → Type 0
 ForbidsRetry d history class from = IsTrue (forbids_retry d history class from)
@@ -162,7 +162,7 @@ says_cancel_no _ = false
 abbrev pub holds_off : DeckView → List Entry → Opening → Bool
 holds_off d history opening =
     is_frr opening.kind || is_manager opening.kind
-    || (is_estae opening.kind && option_map_or says_cancel_no (executed_at d history opening.born) false)
+    || (is_estae opening.kind && option_map_or says_cancel_no (op_executed_at d history opening.born) false)
 
 abbrev pub is_held_off : DeckView → ℕ → List Entry → Bool
 is_held_off d u history = list_any (holds_off d history) (open_enters u history)

@@ -2,7 +2,7 @@
 -- (this profile).
 use Rattle.std.specs.Prelude.{length, ℕ, ◌<◌, ◌≤◌}
 use Rattle.rtm_codes.specs.Code.{IsInRange}
-use Rattle.rtm_items.specs.View.{DeckView}
+use Rattle.rtm_deck_items.specs.View.{DeckView}
 use Rattle.rtm_model.specs.declared.entry.Entry.{Entry}
 use Rattle.rtm_model.specs.declared.entry.Verdict.{Verdict}
 use Rattle.rtm_model.specs.declared.entry.Verdict.TheVariants.{Retry}

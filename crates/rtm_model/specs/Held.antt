@@ -1,13 +1,13 @@
--- What is held after a history, and what was released, by its entries alone: GET bears a holding; FREE, and RELEASE
+-- What is held after a history, and what was released, by its entries alone: GET makes a holding; FREE, and RELEASE
 -- when its owner or the address space ends, take the newest equal one away (this profile).
 use Rattle.std.specs.Prelude.{Bool, List, [], false, filter, if◌then◌else◌, length, true, ℕ, ◌&&◌, ◌+◌, ◌==◌, ◌∷◌}
 use Rattle.std.specs.List.{flat_map}
-use Rattle.rtm_items.specs.Reading.{op_at}
-use Rattle.rtm_items.specs.View.{DeckView}
-use Rattle.rtm_items.specs.declared.op.Op.{Op}
-use Rattle.rtm_items.specs.declared.op.Op.TheVariants.{Free, Get}
-use Rattle.rtm_operands.specs.declared.value.Res.{Res}
-use Rattle.rtm_operands.specs.declared.value.Res.TheVariants.{Dsn, Enq, Stor, Timr}
+use Rattle.rtm_deck_items.specs.Reading.{op_at}
+use Rattle.rtm_deck_items.specs.View.{DeckView}
+use Rattle.rtm_deck_items.specs.declared.op.Op.{Op}
+use Rattle.rtm_deck_items.specs.declared.op.Op.TheVariants.{Free, Get}
+use Rattle.rtm_deck_operands.specs.declared.value.Res.{Res}
+use Rattle.rtm_deck_operands.specs.declared.value.Res.TheVariants.{Dsn, Enq, Stor, Timr}
 use Rattle.rtm_model.specs.declared.entry.Entry.{Entry}
 use Rattle.rtm_model.specs.declared.entry.What.{What}
 use Rattle.rtm_model.specs.declared.entry.What.TheVariants.{Exec, Release}
@@ -27,23 +27,23 @@ is_equal_holding owner class id holding =
     (holding.owner == owner) && is_same_res class holding.class && (holding.id == id)
 
 -- a card of the unit that was executed at the entry of index n
-abbrev pub held_after_card : ℕ → ℕ → Op → List Holding → List Holding
-held_after_card n u (Get class id) held = record { born = n; class = class; id = id; owner = u } ∷ held
-held_after_card n u (Free class id) held = without_first (is_equal_holding u class id) held
-held_after_card n u _ held = held
+abbrev pub holdings_after_card : ℕ → ℕ → Op → List Holding → List Holding
+holdings_after_card n u (Get class id) held = record { born = n; class = class; id = id; owner = u } ∷ held
+holdings_after_card n u (Free class id) held = without_first (is_equal_holding u class id) held
+holdings_after_card n u _ held = held
 
-abbrev pub held_after : DeckView → ℕ → ℕ → What → List Holding → List Holding
-held_after d n u (Exec at rc) held = if rc == 0 then held_after_card n u (op_at d at.prog at.op) held else held
-held_after d n u (Release class id owner) held = without_first (is_equal_holding owner class id) held
-held_after d n u _ held = held
+abbrev pub holdings_after : DeckView → ℕ → ℕ → What → List Holding → List Holding
+holdings_after d n u (Exec at rc) held = if rc == 0 then holdings_after_card n u (op_at d at.prog at.op) held else held
+holdings_after d n u (Release class id owner) held = without_first (is_equal_holding owner class id) held
+holdings_after d n u _ held = held
 
-abbrev pub held_from : DeckView → ℕ → List Entry → List Holding → List Holding
-held_from d n [] held = held
-held_from d n (e ∷ es) held = held_from d (n + 1) es (held_after d n e.unit e.what held)
+abbrev pub holdings_from : DeckView → ℕ → List Entry → List Holding → List Holding
+holdings_from d n [] held = held
+holdings_from d n (e ∷ es) held = holdings_from d (n + 1) es (holdings_after d n e.unit e.what held)
 
 -- the holdings that live after the history, the newest first
 abbrev pub living_holdings : DeckView → List Entry → List Holding
-living_holdings d history = held_from d 0 history []
+living_holdings d history = holdings_from d 0 history []
 
 -- how many of that owner, class and number live: equal ones differ in age alone
 abbrev pub times_held : DeckView → List Entry → ℕ → Res → ℕ → ℕ

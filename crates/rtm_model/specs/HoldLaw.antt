@@ -3,18 +3,18 @@
 use Rattle.std.specs.Prelude.{Bool, IsTrue, List, Option, [], false, filter, length, not, take, true, ℕ, ◌&&◌, ◌+◌, ◌<◌, ◌==◌, ◌||◌, ◌∷◌, ◌≡◌, ◌≤◌}
 use Rattle.std.specs.List.{list_any}
 use Rattle.rtm_codes.specs.declared.code.Code.{Code}
-use Rattle.rtm_items.specs.Reading.{op_at}
-use Rattle.rtm_items.specs.View.{DeckView}
-use Rattle.rtm_items.specs.declared.op.Op.{Op}
-use Rattle.rtm_items.specs.declared.op.Op.TheVariants.{Free, Get}
-use Rattle.rtm_operands.specs.declared.value.Res.{Res}
+use Rattle.rtm_deck_items.specs.Reading.{op_at}
+use Rattle.rtm_deck_items.specs.View.{DeckView}
+use Rattle.rtm_deck_items.specs.declared.op.Op.{Op}
+use Rattle.rtm_deck_items.specs.declared.op.Op.TheVariants.{Free, Get}
+use Rattle.rtm_deck_operands.specs.declared.value.Res.{Res}
 use Rattle.rtm_model.specs.declared.block.Place.{Place}
 use Rattle.rtm_model.specs.declared.entry.Entry.{Entry}
 use Rattle.rtm_model.specs.declared.entry.Fate.{Fate}
 use Rattle.rtm_model.specs.declared.entry.What.{What}
 use Rattle.rtm_model.specs.declared.entry.What.TheVariants.{Done, Exec, MemEnd, Release}
 use Rattle.rtm_model.specs.declared.holding.Holding.{Holding}
-use Rattle.rtm_model.specs.Ending.{held_by, no_holdings}
+use Rattle.rtm_model.specs.Ending.{holdings_of, no_holdings}
 use Rattle.rtm_model.specs.Held.{living_holdings, times_held}
 use Rattle.rtm_model.specs.Moments.{IsAt, IsHeld, IsWhat, before}
 use Rattle.rtm_model.specs.World.{World}
@@ -98,10 +98,10 @@ pub record HoldLaw (d : DeckView) (history : List Entry) : Type 0 where
       → IsEqual other holding.class holding.id holding.owner → other.born ≤ holding.born
   -- after its DONE a unit holds nothing, and never gets anything again
   pub done : (i j u : ℕ) (code : Code) (to_task to_step : Option Fate) → IsWhat history i u (Done code to_task to_step)
-      → i < j → j ≤ length history → held_by u (World.holdings (before d history j)) ≡ no_holdings
+      → i < j → j ≤ length history → holdings_of u (World.holdings (before d history j)) ≡ no_holdings
   -- after MEMEND nobody holds anything
   pub over : (i u owner : ℕ) → IsWhat history i u MemEnd
-      → held_by owner (World.holdings (before d history (i + 1))) ≡ no_holdings
+      → holdings_of owner (World.holdings (before d history (i + 1))) ≡ no_holdings
   -- by entries alone the same: after DONE none of the unit's holdings lives, after MEMEND none at all
   pub done_in_entries : (i j u : ℕ) (code : Code) (to_task to_step : Option Fate) (class : Res) (id : ℕ)
       → IsWhat history i u (Done code to_task to_step) → i < j → times_held d (take j history) u class id ≡ 0

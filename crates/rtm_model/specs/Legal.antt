@@ -1,6 +1,6 @@
 -- Which histories are legal, and how one ends (this profile).
 use Rattle.std.specs.Prelude.{Bool, List, None, Option, Some, [], if◌then◌else◌, is_none, length, nat_le, not, ℕ, ◌&&◌, ◌+◌, ◌<◌, ◌∷◌, ◌≡◌}
-use Rattle.rtm_items.specs.View.{DeckView}
+use Rattle.rtm_deck_items.specs.View.{DeckView}
 use Rattle.rtm_model.specs.declared.entry.End.{End}
 use Rattle.rtm_model.specs.declared.entry.End.TheVariants.{Ended, Limit, Stalled}
 use Rattle.rtm_model.specs.declared.entry.Entry.{Entry}

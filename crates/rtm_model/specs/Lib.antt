@@ -7,7 +7,7 @@ pub mod SetrpCard
 pub mod Levels
 pub mod Ending
 pub mod World
-pub mod Outside
+pub mod Surroundings
 pub mod Cards
 pub mod NextEntry
 pub mod Births

@@ -1,12 +1,12 @@
 -- Moments of a history, in which its laws are said (this profile).
 use Rattle.std.specs.Prelude.{Bool, List, Some, [], false, slice_get, take, true, ℕ, ◌∷◌, ◌≡◌, ◌⊎◌}
-use Rattle.rtm_items.specs.View.{DeckView}
+use Rattle.rtm_deck_items.specs.View.{DeckView}
 use Rattle.rtm_model.specs.declared.entry.Entry.{Entry}
 use Rattle.rtm_model.specs.declared.entry.What.{What}
 use Rattle.rtm_model.specs.declared.entry.What.TheVariants.{Arrive}
 use Rattle.rtm_model.specs.declared.holding.Holding.{Holding}
 use Rattle.rtm_model.specs.Births.{world}
-use Rattle.rtm_model.specs.Ending.{held_by, of_class}
+use Rattle.rtm_model.specs.Ending.{holdings_of, of_class}
 use Rattle.rtm_model.specs.World.{Core, UnitOfWork, World, core_at, unit_at}
 
 -- what lives just before the entry of index i, and just after the one before it
@@ -40,4 +40,4 @@ is_arrival _ = false
 
 -- the holding lives
 abbrev pub IsHeld : World → Holding → Type 0
-IsHeld w holding = IsIn holding (of_class holding.class (held_by holding.owner w.holdings))
+IsHeld w holding = IsIn holding (of_class holding.class (holdings_of holding.owner w.holdings))

@@ -3,10 +3,10 @@ use Rattle.std.specs.Prelude.{Bool, List, None, Option, Some, false, if◌then�
 use Rattle.std.specs.Option.{option_map_or}
 use Rattle.rtm_codes.specs.declared.code.Code.{Code}
 use Rattle.rtm_codes.specs.declared.code.Code.TheVariants.{Sys}
-use Rattle.rtm_items.specs.Reading.{op_at}
-use Rattle.rtm_items.specs.View.{DeckView}
+use Rattle.rtm_deck_items.specs.Reading.{op_at}
+use Rattle.rtm_deck_items.specs.View.{DeckView}
 use Rattle.rtm_model.specs.declared.abort.Abort.{Abort}
-use Rattle.rtm_model.specs.declared.around.Around.{Around}
+use Rattle.rtm_model.specs.declared.surroundings.Surroundings.{Surroundings}
 use Rattle.rtm_model.specs.declared.block.Block.{Block}
 use Rattle.rtm_model.specs.declared.block.Place.{Place}
 use Rattle.rtm_model.specs.declared.entry.Verdict.{Verdict}
@@ -26,8 +26,8 @@ use Rattle.rtm_model.specs.declared.reg.Reg.{Reg}
 use Rattle.rtm_model.specs.Aborts.{is_interruptible}
 use Rattle.rtm_model.specs.Blocks.{newest_birth, newest_block, oldest_birth, place_of_born, without_bracket}
 use Rattle.rtm_model.specs.Cards.{has_frr, outcome}
-use Rattle.rtm_model.specs.Levels.{Level, chosen, current, depth_in, error_here, error_in, first_eligible, record_in, shielded, verdict_in}
-use Rattle.rtm_model.specs.Outside.{around}
+use Rattle.rtm_model.specs.Levels.{Bracket, choice_of, current, depth_in, error_here, error_in, first_eligible, record_in, shielded, verdict_in}
+use Rattle.rtm_model.specs.Surroundings.{surroundings}
 use Rattle.rtm_model.specs.Record.{fresh, mark_of, no_flags}
 use Rattle.rtm_model.specs.Tasks.{Tree, is_living}
 use Rattle.rtm_model.specs.World.{Beginning, Core, World, core_at, lives_in, master}
@@ -54,23 +54,23 @@ end_mark code = record { code = code; reason = None; clup = false; perc = false;
 -- An error is open (Authorized Assembler Services Guide, "Providing recovery")
 
 -- the first routine that is eligible for the error of the innermost bracket
-abbrev pub eligible : Core → ErrorRecord → Option Reg
-eligible c r = first_eligible (depth_in c.levels) r.flags.term_only c.frrs c.estaes c.estais
+abbrev pub eligible_routine : Core → ErrorRecord → Option Reg
+eligible_routine c r = first_eligible (depth_in c.levels) r.flags.term_only c.frrs c.estaes c.estais
 
 -- it is entered
-abbrev pub entering : ErrorRecord → Reg → What
-entering r reg = Enter reg.kind reg.born (mark_of r)
+abbrev pub enter_of : ErrorRecord → Reg → What
+enter_of r reg = Enter reg.kind reg.born (mark_of r)
 
 -- none is eligible: the routine in whose bracket the error is open has failed
-abbrev pub failing : Reg → What
-failing own = Leave own.kind own.born Fail false false
+abbrev pub failure_of : Reg → What
+failure_of own = Leave own.kind own.born Fail false false
 
 -- none is eligible in the outermost bracket: the unit begins to end
-abbrev pub beginning : ErrorRecord → What
-beginning r = Begin r.code r.flags.dump
+abbrev pub begin_of : ErrorRecord → What
+begin_of r = Begin r.code r.flags.dump
 
-abbrev pub handled : ErrorRecord → Option Reg → Option Reg → What
-handled r routine own = chosen (entering r) failing (beginning r) routine own
+abbrev pub handling_of : ErrorRecord → Option Reg → Option Reg → What
+handling_of r routine own = choice_of (enter_of r) failure_of (begin_of r) routine own
 
 -- An abort lands (the points of interruption are this profile's)
 
@@ -80,11 +80,11 @@ interruptible c =
     is_none c.begun && is_interruptible (has_frr c.frrs) (shielded c.levels) c.doomed (error_here c.levels)
 
 -- the abort that lands next
-abbrev pub landing : Core → Around → Option Abort
-landing c a = if interruptible c then a.abort else None
+abbrev pub next_landing : Core → Surroundings → Option Abort
+next_landing c a = if interruptible c then a.abort else None
 
-abbrev pub landed : Abort → What
-landed abort = Land abort.class abort.from (mark_of (landed_record abort))
+abbrev pub land_of : Abort → What
+land_of abort = Land abort.class abort.from (mark_of (landed_record abort))
 
 -- A routine's last request block returns (Authorized Assembler Services Guide, "Providing recovery")
 
@@ -115,11 +115,11 @@ abbrev pub is_dumped : Option ErrorRecord → Bool
 is_dumped r = option_map_or (λ r. r.flags.dump) r false
 
 -- the routine is left; a dump is taken at a retry alone (this profile)
-abbrev pub left_with : Reg → Option ErrorRecord → Verdict → What
-left_with reg r verdict = Leave reg.kind reg.born verdict (is_logged r) (is_dumped r && is_retry verdict)
+abbrev pub leave_by_verdict : Reg → Option ErrorRecord → Verdict → What
+leave_by_verdict reg r verdict = Leave reg.kind reg.born verdict (is_logged r) (is_dumped r && is_retry verdict)
 
-abbrev pub left : DeckView → Core → Reg → What
-left d c reg = left_with reg (record_in c.levels) (verdict_in d (retry_prog c reg) c.levels)
+abbrev pub leave_of : DeckView → Core → Reg → What
+leave_of d c reg = leave_by_verdict reg (record_in c.levels) (verdict_in d (retry_prog c reg) c.levels)
 
 -- A unit's last request block returns: it begins to end, abnormally where a subtask of it lives (MVS System Codes,
 -- A03; its exact place is this profile's)
@@ -129,39 +129,39 @@ normal_end = Sys 0
 abbrev pub with_subtasks : Code
 with_subtasks = Sys 0xA03
 
-abbrev pub returned : DeckView → Core → Around → Option Reg → What
-returned d c a (Some reg) = left d c reg
-returned d c a None = Begin (if a.subtask then with_subtasks else normal_end) false
+abbrev pub last_return : DeckView → Core → Surroundings → Option Reg → What
+last_return d c a (Some reg) = leave_of d c reg
+last_return d c a None = Begin (if a.subtask then with_subtasks else normal_end) false
 
 -- The card at the place
 
-abbrev pub carded_by : DeckView → Core → Around → Place → Outcome → Option What
-carded_by d c a place (Executed rc) = Some (Exec place rc)
-carded_by d c a place (Abends code reason dump step) =
+abbrev pub card_entry_by : DeckView → Core → Surroundings → Place → Outcome → Option What
+card_entry_by d c a place (Executed rc) = Some (Exec place rc)
+card_entry_by d c a place (Abends code reason dump step) =
     Some (Error place (mark_of (card_record c.doomed code reason dump step)))
-carded_by d c a place Waits = None
-carded_by d c a place Returns = Some (returned d c a (current c.levels))
+card_entry_by d c a place Waits = None
+card_entry_by d c a place Returns = Some (last_return d c a (current c.levels))
 
 -- what the unit's card does; a unit without a request block has none
-abbrev pub carded_at : DeckView → Core → Around → Option Block → Option What
-carded_at d c a None = None
-carded_at d c a (Some block) =
-    carded_by d c a block.place (outcome c a (op_at d (Place.prog block.place) (Place.op block.place)))
+abbrev pub card_entry_at : DeckView → Core → Surroundings → Option Block → Option What
+card_entry_at d c a None = None
+card_entry_at d c a (Some block) =
+    card_entry_by d c a block.place (outcome c a (op_at d (Place.prog block.place) (Place.op block.place)))
 
-abbrev pub carded : DeckView → Core → Around → Option What
-carded d c a = carded_at d c a (newest_block c.blocks)
+abbrev pub card_entry : DeckView → Core → Surroundings → Option What
+card_entry d c a = card_entry_at d c a (newest_block c.blocks)
 
 -- The ending of a unit, and memory end (the order is this profile's)
 
 -- the managers come first, newest first
-abbrev pub managed_or : Code → Option Manager1 → What → What
-managed_or code (Some manager) rest = Enter Mgr manager.born (end_mark code)
-managed_or code None rest = rest
+abbrev pub manager_or : Code → Option Manager1 → What → What
+manager_or code (Some manager) rest = Enter Mgr manager.born (end_mark code)
+manager_or code None rest = rest
 
 -- then the holdings, by class, newest first
-abbrev pub released_or : Option Holding → What → What
-released_or (Some holding) rest = Release holding.class holding.id holding.owner
-released_or None rest = rest
+abbrev pub release_or : Option Holding → What → What
+release_or (Some holding) rest = Release holding.class holding.id holding.owner
+release_or None rest = rest
 
 -- whether an error led to the unit's end, and whether its record had STEP
 abbrev pub is_from_error : Beginning → Bool
@@ -172,58 +172,58 @@ ends_step begun = option_map_or (λ r. r.flags.step) begun.cause false
 
 -- the unit has ended; the aborts that this posts: to the related task of an SRB that an error ended, and to the job
 -- step task where the error was to end the job step (this profile)
-abbrev pub done : Beginning → Around → What
-done begun a =
+abbrev pub done_of : Beginning → Surroundings → What
+done_of begun a =
     Done begun.code (if is_from_error begun then a.to_task else None) (if ends_step begun then a.to_step else None)
 
 -- the next act of a unit that has begun to end; while a subtask of it lives there is none
-abbrev pub unit_act : Beginning → Around → Option What
+abbrev pub unit_act : Beginning → Surroundings → Option What
 unit_act begun a =
-    if a.subtask then None else Some (managed_or begun.code a.manager (released_or a.holding (done begun a)))
+    if a.subtask then None else Some (manager_or begun.code a.manager (release_or a.holding (done_of begun a)))
 
 -- the master's next act: first each living unit is purged, by number
-abbrev pub master_act : Code → Option ℕ → Around → What
+abbrev pub master_act : Code → Option ℕ → Surroundings → What
 master_act code (Some unit) a = Purge unit
-master_act code None a = managed_or code a.manager (released_or a.holding MemEnd)
+master_act code None a = manager_or code a.manager (release_or a.holding MemEnd)
 
 -- The cases
 
 -- no bracket is open but the outermost
-abbrev pub is_outermost : List Level → Bool
+abbrev pub is_outermost : List Bracket → Bool
 is_outermost levels = depth_in levels == 0
 
 -- an open error comes first, then the abort that lands, then the rest
 abbrev pub first_case : Core → Option ErrorRecord → Option Abort → Option What → Option What
-first_case c (Some r) abort rest = Some (handled r (eligible c r) (current c.levels))
-first_case c None (Some abort) rest = Some (landed abort)
+first_case c (Some r) abort rest = Some (handling_of r (eligible_routine c r) (current c.levels))
+first_case c None (Some abort) rest = Some (land_of abort)
 first_case c None None rest = rest
 
 -- with no bracket open, a unit that has begun to end goes on with its ending; any other with its card
-abbrev pub going_on : DeckView → Core → Around → Option Beginning → Option What
-going_on d c a None = carded d c a
-going_on d c a (Some begun) = if is_outermost c.levels then unit_act begun a else carded d c a
+abbrev pub ending_or_card : DeckView → Core → Surroundings → Option Beginning → Option What
+ending_or_card d c a None = card_entry d c a
+ending_or_card d c a (Some begun) = if is_outermost c.levels then unit_act begun a else card_entry d c a
 
 -- the next entry of a living unit
-abbrev pub next_unit : DeckView → Core → Around → Option What
-next_unit d c a = first_case c (error_in c.levels) (landing c a) (going_on d c a c.begun)
+abbrev pub next_unit : DeckView → Core → Surroundings → Option What
+next_unit d c a = first_case c (error_in c.levels) (next_landing c a) (ending_or_card d c a c.begun)
 
 -- the master's next entry at memory end, of that end code and where that unit is the first that lives
-abbrev pub next_master : DeckView → Core → Around → Code → Option ℕ → Option What
+abbrev pub next_master : DeckView → Core → Surroundings → Code → Option ℕ → Option What
 next_master d c a code living =
     first_case c (error_in c.levels) None
-    (if is_outermost c.levels then Some (master_act code living a) else carded d c a)
+    (if is_outermost c.levels then Some (master_act code living a) else card_entry d c a)
 
 -- Once memory end has begun, no unit but the master has an entry; the master has none before, and none once the
 -- address space has ended.
 abbrev pub next_of_unit : DeckView → World → ℕ → Option Code → Option What
 next_of_unit d w u (Some code) = None
-next_of_unit d w u None = if lives_in w u then next_unit d (core_at u w) (around d w u) else None
+next_of_unit d w u None = if lives_in w u then next_unit d (core_at u w) (surroundings d w u) else None
 
 abbrev pub next_of_master : DeckView → World → Option Code → Option What
 next_of_master d w None = None
 next_of_master d w (Some code) =
     if w.over then None
-    else next_master d (core_at (master d) w) (around d w (master d)) code (position is_living (Tree.lives w.tree))
+    else next_master d (core_at (master d) w) (surroundings d w (master d)) code (position is_living (Tree.lives w.tree))
 
 -- the one entry that the unit of that number may make, or none
 abbrev pub next : DeckView → World → ℕ → Option What

@@ -3,11 +3,11 @@
 use Rattle.std.specs.Prelude.{ℕ, Bool, true, false, not, ◌&&◌, ◌==◌, if◌then◌else◌, Option, Some, None, is_some}
 use Rattle.std.specs.Option.{unwrap_or, option_map, option_and_then}
 use Rattle.rtm_codes.specs.declared.code.Code.{Code}
-use Rattle.rtm_items.specs.declared.op.Setrp.{Setrp}
-use Rattle.rtm_operands.specs.declared.value.Three.{Three}
-use Rattle.rtm_operands.specs.declared.value.Three.TheVariants.{Yes, No, Ignore}
-use Rattle.rtm_items.specs.View.{DeckView}
-use Rattle.rtm_items.specs.Reading.{label_at}
+use Rattle.rtm_deck_items.specs.declared.op.Setrp.{Setrp}
+use Rattle.rtm_deck_operands.specs.declared.value.Three.{Three}
+use Rattle.rtm_deck_operands.specs.declared.value.Three.TheVariants.{Yes, No, Ignore}
+use Rattle.rtm_deck_items.specs.View.{DeckView}
+use Rattle.rtm_deck_items.specs.Reading.{label_at}
 use Rattle.rtm_model.specs.declared.block.Place.{Place}
 use Rattle.rtm_model.specs.declared.entry.Verdict.{Verdict}
 use Rattle.rtm_model.specs.declared.entry.Verdict.TheVariants.{Retry, Perc, Stop, Bad}
@@ -37,22 +37,22 @@ set_by (Some No) flag = false
 set_by (Some Ignore) flag = flag
 
 -- the option's value, or what was there
-abbrev pub given_or : {A : Type 0} → Option A → Option A → Option A
-given_or (Some x) old = Some x
-given_or None old = old
+abbrev pub value_or : {A : Type 0} → Option A → Option A → Option A
+value_or (Some x) old = Some x
+value_or None old = old
 
 -- SETRP: what its options name is changed, and nothing else
 abbrev pub setrp_in : Setrp → ErrorRecord → ErrorRecord
 setrp_in s r = record {
   code = unwrap_or s.compcod r.code;
   first = r.first;
-  reason = given_or s.reason r.reason;
+  reason = value_or s.reason r.reason;
   flags = record {
     clup = r.flags.clup;
     perc = r.flags.perc;
     staf = r.flags.staf;
     step = r.flags.step;
-    reason = is_some (given_or s.reason r.reason);
+    reason = is_some (value_or s.reason r.reason);
     term_only = r.flags.term_only;
     dump = set_by s.dump r.flags.dump;
     remrec = unwrap_or s.remrec r.flags.remrec;
@@ -60,25 +60,25 @@ setrp_in s r = record {
     fresdwa = unwrap_or s.fresdwa r.flags.fresdwa;
   };
   rc = unwrap_or s.rc r.rc;
-  retaddr = given_or s.retaddr r.retaddr;
+  retaddr = value_or s.retaddr r.retaddr;
 }
 
 -- what a routine asked for is forgotten
-abbrev pub asked_nothing : RecordFlags → RecordFlags
-asked_nothing f = record f { remrec = false; logrec = false; fresdwa = false }
+abbrev pub without_requests : RecordFlags → RecordFlags
+without_requests f = record f { remrec = false; logrec = false; fresdwa = false }
 
 -- the routine has percolated
-abbrev pub percolated : ErrorRecord → ErrorRecord
-percolated r = record r { flags = record (asked_nothing r.flags) { perc = true }; rc = 0; retaddr = None }
+abbrev pub after_percolation : ErrorRecord → ErrorRecord
+after_percolation r = record r { flags = record (without_requests r.flags) { perc = true }; rc = 0; retaddr = None }
 
 -- the routine has failed: as after a percolation, with STAF in the place of PERC, which stays as it was (this profile)
 abbrev pub after_failure : ErrorRecord → ErrorRecord
-after_failure r = record r { flags = record (asked_nothing r.flags) { staf = true }; rc = 0; retaddr = None }
+after_failure r = record r { flags = record (without_requests r.flags) { staf = true }; rc = 0; retaddr = None }
 
 -- An outer record takes over from the record of the error by which its routine failed: code, reason, the dump request,
 -- which routines are eligible, and that nothing is retried. The first code and STEP stay (this profile).
-abbrev pub taken_over : ErrorRecord → ErrorRecord → ErrorRecord
-taken_over inner outer = record outer {
+abbrev pub after_takeover : ErrorRecord → ErrorRecord → ErrorRecord
+after_takeover inner outer = record outer {
   code = inner.code;
   reason = inner.reason;
   flags = record outer.flags { clup = true; reason = is_some inner.reason; term_only = inner.flags.term_only; dump = inner.flags.dump };
@@ -88,7 +88,7 @@ taken_over inner outer = record outer {
 -- the error that the routine was entered for, which else keeps its own (this profile).
 abbrev pub inner_failed : ErrorRecord → ErrorRecord → ErrorRecord
 inner_failed inner outer =
-    if inner.flags.clup && not outer.flags.clup then taken_over inner (after_failure outer) else after_failure outer
+    if inner.flags.clup && not outer.flags.clup then after_takeover inner (after_failure outer) else after_failure outer
 
 -- where the error would be retried: RC=4 asks for it, nothing forbids it, and the label stands in the program of the request block
 abbrev pub retry_place : DeckView → ℕ → ErrorRecord → Option Place

@@ -3,7 +3,7 @@
 -- profile).
 use Rattle.std.specs.Prelude.{List, [], if◌then◌else◌, ℕ, ◌++◌, ◌+◌, ◌∷◌}
 use Rattle.std.specs.Option.{option_to_list}
-use Rattle.rtm_items.specs.View.{DeckView}
+use Rattle.rtm_deck_items.specs.View.{DeckView}
 use Rattle.rtm_model.specs.declared.entry.Entry.{Entry}
 use Rattle.rtm_model.specs.declared.entry.What.{What}
 use Rattle.rtm_model.specs.declared.entry.What.TheVariants.{Enter}

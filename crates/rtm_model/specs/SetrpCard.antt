@@ -3,7 +3,7 @@ use Rattle.std.specs.Prelude.{ℕ, Bool, true, not, ◌&&◌, ◌||◌, ◌==◌
 use Rattle.rtm_codes.specs.declared.code.Code.{Code}
 use Rattle.rtm_codes.specs.declared.code.Code.TheVariants.{Sys}
 use Rattle.rtm_codes.specs.Code.{in_range, same_code}
-use Rattle.rtm_items.specs.declared.op.Setrp.{Setrp}
+use Rattle.rtm_deck_items.specs.declared.op.Setrp.{Setrp}
 
 -- the return codes of a recovery routine: percolate, retry, stop
 abbrev pub is_return_code : ℕ → Bool

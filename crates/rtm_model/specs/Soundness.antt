@@ -3,10 +3,10 @@
 use Rattle.std.specs.Prelude.{Bool, IfSome, IsSome, List, None, Option, Some, [], false, filter, find, if◌then◌else◌, is_none, is_some, length, not, slice_index_or, true, ℕ, ◌&&◌, ◌+◌, ◌-◌, ◌<◌, ◌≡◌, ◌≤◌, ◌∷◌}
 use Rattle.std.specs.List.{AllByRecursion}
 use Rattle.rtm_codes.specs.Code.{IsInRange}
-use Rattle.rtm_items.specs.Reading.{lines_of}
-use Rattle.rtm_items.specs.View.{DeckView}
-use Rattle.rtm_operands.specs.declared.value.Res.{Res}
-use Rattle.rtm_operands.specs.declared.value.Res.TheVariants.{Dsn, Enq, Stor, Timr}
+use Rattle.rtm_deck_items.specs.Reading.{lines_of}
+use Rattle.rtm_deck_items.specs.View.{DeckView}
+use Rattle.rtm_deck_operands.specs.declared.value.Res.{Res}
+use Rattle.rtm_deck_operands.specs.declared.value.Res.TheVariants.{Dsn, Enq, Stor, Timr}
 use Rattle.rtm_model.specs.declared.abort.Abort.{Abort}
 use Rattle.rtm_model.specs.declared.block.Block.{Block}
 use Rattle.rtm_model.specs.declared.block.Place.{Place}
@@ -18,10 +18,10 @@ use Rattle.rtm_model.specs.declared.reg.Kind.TheVariants.{Estae, Estai, Frr}
 use Rattle.rtm_model.specs.declared.reg.Reg.{Reg}
 use Rattle.rtm_model.specs.Aborts.{HasDistinctClasses}
 use Rattle.rtm_model.specs.Blocks.{is_block_of}
-use Rattle.rtm_model.specs.Ending.{Holdings, held_by, held_count}
-use Rattle.rtm_model.specs.Levels.{Level, depth_in, innermost, is_manager}
+use Rattle.rtm_model.specs.Ending.{Holdings, held_count, holdings_of}
+use Rattle.rtm_model.specs.Levels.{Bracket, depth_in, innermost_bracket, is_manager}
 use Rattle.rtm_model.specs.Tasks.{Life, Tree, is_dormant, life_of}
-use Rattle.rtm_model.specs.World.{Core, UnitOfWork, World, core_at, lives_in, master, unborn, unit_at}
+use Rattle.rtm_model.specs.World.{Core, UnitOfWork, World, core_at, lives_in, master, unborn_unit, unit_at}
 
 -- Numbers in their ranges
 
@@ -67,19 +67,19 @@ BracketsFall n (blocks ∷ outer) = BlocksFall n blocks × BracketsFall (oldest_
 
 -- The outermost bracket has no routine. Every other one has: a recovery routine, and then the error that it was
 -- entered for is open in the enclosing bracket; or a resource manager, and then none is open there.
-abbrev pub StandsIn : Option Reg → Option Level → Type 0
+abbrev pub StandsIn : Option Reg → Option Bracket → Type 0
 StandsIn None None = Unit {0}
 StandsIn None (Some outer) = ⊥
 StandsIn (Some reg) None = ⊥
 StandsIn (Some reg) (Some outer) = is_some outer.error ≡ not (is_manager reg.kind)
 
 -- each bracket stands so in the next
-abbrev pub AreNested : List Level → Type 0
+abbrev pub AreNested : List Bracket → Type 0
 AreNested [] = Unit {0}
-AreNested (l ∷ ls) = StandsIn l.routine (innermost ls) × AreNested ls
+AreNested (l ∷ ls) = StandsIn l.routine (innermost_bracket ls) × AreNested ls
 
 -- no error is open in the outermost bracket
-abbrev pub OutermostQuiet : List Level → Type 0
+abbrev pub OutermostQuiet : List Bracket → Type 0
 OutermostQuiet [] = Unit {0}
 OutermostQuiet (l ∷ []) = l.error ≡ None
 OutermostQuiet (l ∷ outer ∷ ls) = OutermostQuiet (outer ∷ ls)
@@ -103,7 +103,7 @@ abbrev pub bracket_at : ℕ → ℕ → List (List Block) → List Block
 bracket_at innermost depth blocks = slice_index_or blocks (innermost - depth) []
 
 -- the routine that runs in a bracket was born before that entry
-abbrev pub RunsSince : ℕ → Level → Type 0
+abbrev pub RunsSince : ℕ → Bracket → Type 0
 RunsSince n l = IfSome l.routine (λ reg. reg.born < n)
 
 -- the request block that made the routine lives, in the routine's bracket
@@ -117,7 +117,7 @@ pub record IsCoreSound (d : DeckView) (n : ℕ) (c : Core) : Type 0 where
   pub levels_few : length c.levels ≤ 16
   pub nested : AreNested c.levels
   pub routines : AllByRecursion (RunsSince n) c.levels
-  pub records : AllByRecursion (λ (l : Level). IfSome l.error IsRecord) c.levels
+  pub records : AllByRecursion (λ (l : Bracket). IfSome l.error IsRecord) c.levels
   pub brackets : AllByRecursion (IsBracket d) c.blocks
   pub births : BracketsFall (n + 1) c.blocks
   pub frrs_few : length c.frrs ≤ 16
@@ -204,13 +204,13 @@ pub record IsSound (d : DeckView) (n : ℕ) (w : World) : Type 0 where
   pub blocks : (u : ℕ) → length (Core.blocks (core_at u w)) + (if stands w u then 0 else 1) ≡ length (Core.levels (core_at u w))
   pub master_quiet : OutermostQuiet (Core.levels (core_at (master d) w))
   -- a unit that wasn't born yet is as it was at the start
-  pub dormant : (u : ℕ) → u < length d.units → is_dormant (life_of u (Tree.lives w.tree)) ≡ true → unit_at u w.units ≡ unborn
+  pub dormant : (u : ℕ) → u < length d.units → is_dormant (life_of u (Tree.lives w.tree)) ≡ true → unit_at u w.units ≡ unborn_unit
   -- each unit has fewer ESTAI routines than units were born so far
   pub estais : (u : ℕ) → length (Core.estais (core_at u w)) < born_units (Tree.lives w.tree)
   pub pending : (u : ℕ) → ArePending n (UnitOfWork.pending (unit_at u w.units))
   -- no abort is pending for a unit that doesn't stand
   pub quiet : (u : ℕ) → stands w u ≡ false → UnitOfWork.pending (unit_at u w.units) ≡ []
-  pub holdings : (u : ℕ) → AreHoldings n u (held_by u w.holdings)
+  pub holdings : (u : ℕ) → AreHoldings n u (holdings_of u w.holdings)
   pub managers_few : length w.managers ≤ 64
   pub managers : AllByRecursion (IsManager d) w.managers
   pub managers_fall : ManagersFall n w.managers

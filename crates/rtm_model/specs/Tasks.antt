@@ -2,9 +2,9 @@
 -- their cards; the master unit is not among them (this profile).
 use Rattle.std.specs.Prelude.{ℕ, ◌==◌, Bool, true, false, if◌then◌else◌, List, [], ◌∷◌, map, Option, Some, None, slice_index_or, slice_set}
 use Rattle.std.specs.List.{list_any}
-use Rattle.rtm_items.specs.declared.deck.Unit.{Unit as UnitCard}
-use Rattle.rtm_items.specs.View.{DeckView}
-use Rattle.rtm_items.specs.Reading.{job_step}
+use Rattle.rtm_deck_items.specs.declared.deck.Unit.{Unit as UnitCard}
+use Rattle.rtm_deck_items.specs.View.{DeckView}
+use Rattle.rtm_deck_items.specs.Reading.{job_step}
 
 -- A unit is dormant until ATTACHX or SCHEDULE names it, and is never born twice. With its life goes the number of its
 -- mother, the task that attached it; the job step task and an SRB have none (this profile). A unit has ended by its own

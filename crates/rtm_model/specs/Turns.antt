@@ -1,7 +1,7 @@
 -- The history that a single thread makes: the units in turns, and arrivals first (this profile).
 use Rattle.std.specs.Prelude.{List, None, Option, Some, [], if◌then◌else◌, not, suc, zero, ℕ, ◌+◌, ◌==◌, ◌∷◌}
 use Rattle.std.specs.Option.{option_map, option_or}
-use Rattle.rtm_items.specs.View.{DeckView}
+use Rattle.rtm_deck_items.specs.View.{DeckView}
 use Rattle.rtm_model.specs.declared.entry.End.{End}
 use Rattle.rtm_model.specs.declared.entry.Entry.{Entry}
 use Rattle.rtm_model.specs.declared.entry.What.{What}

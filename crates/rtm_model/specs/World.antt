@@ -3,8 +3,8 @@
 use Rattle.std.specs.Prelude.{Bool, List, None, Option, [], false, length, map, not, replicate, slice_get, slice_index_or, slice_set, ℕ, ◌++◌, ◌+◌, ◌∷◌}
 use Rattle.std.specs.Option.{option_and_then, option_map_or}
 use Rattle.rtm_codes.specs.declared.code.Code.{Code}
-use Rattle.rtm_items.specs.Reading.{is_task_card, job_step, program_of}
-use Rattle.rtm_items.specs.View.{DeckView}
+use Rattle.rtm_deck_items.specs.Reading.{is_task_card, job_step, program_of}
+use Rattle.rtm_deck_items.specs.View.{DeckView}
 use Rattle.rtm_model.specs.declared.abort.Abort.{Abort}
 use Rattle.rtm_model.specs.declared.block.Block.{Block}
 use Rattle.rtm_model.specs.declared.error_record.ErrorRecord.{ErrorRecord}
@@ -12,7 +12,7 @@ use Rattle.rtm_model.specs.declared.holding.Manager1.{Manager1}
 use Rattle.rtm_model.specs.declared.reg.Reg.{Reg}
 use Rattle.rtm_model.specs.Blocks.{with_bracket}
 use Rattle.rtm_model.specs.Ending.{Holdings, no_holdings}
-use Rattle.rtm_model.specs.Levels.{Level, outermost_alone}
+use Rattle.rtm_model.specs.Levels.{Bracket, outermost_alone}
 use Rattle.rtm_model.specs.Tasks.{Tree, is_living, life_of, tree_at_start}
 
 -- how a unit has begun to end: with which code, and the record of the error that led to it, if an error did (this
@@ -27,7 +27,7 @@ pub record Beginning : Type 0 where
 -- "Providing recovery")
 pub record Core : Type 0 where
   pub blocks : List (List Block)
-  pub levels : List Level
+  pub levels : List Bracket
   pub frrs : List Reg
   pub estaes : List Reg
   pub estais : List Reg
@@ -53,8 +53,8 @@ pub record World : Type 0 where
   pub over : Bool
 
 -- a unit before its birth, and the master: the outermost bracket alone, without a request block (this profile)
-abbrev pub unborn : UnitOfWork
-unborn = record {
+abbrev pub unborn_unit : UnitOfWork
+unborn_unit = record {
   core = record {
     blocks = [];
     levels = outermost_alone;
@@ -81,8 +81,8 @@ abbrev pub master : DeckView → ℕ
 master d = length d.units
 
 -- the related task of an SRB (Authorized Assembler Services Reference, SCHEDULE; that its card names it is this profile's)
-abbrev pub related_to : DeckView → ℕ → Option ℕ
-related_to d u = option_and_then (λ unit. unit.related) (slice_get d.units u)
+abbrev pub related_task : DeckView → ℕ → Option ℕ
+related_task d u = option_and_then (λ unit. unit.related) (slice_get d.units u)
 
 -- the unit is an SRB; the master is none
 abbrev pub is_srb : DeckView → ℕ → Bool
@@ -90,7 +90,7 @@ is_srb d u = option_map_or (λ unit. not (is_task_card unit)) (slice_get d.units
 
 -- the unit of that number
 abbrev pub unit_at : ℕ → List UnitOfWork → UnitOfWork
-unit_at u units = slice_index_or units u unborn
+unit_at u units = slice_index_or units u unborn_unit
 
 -- the unit of that number changed
 abbrev pub on_unit : ℕ → (UnitOfWork → UnitOfWork) → List UnitOfWork → List UnitOfWork
@@ -108,7 +108,7 @@ lives_in w u = is_living (life_of u (Tree.lives w.tree))
 -- profile)
 abbrev pub units_at_start : DeckView → List UnitOfWork
 units_at_start d =
-    on_unit (job_step d) (at_birth 0 (program_of d (job_step d)) []) (map (λ unit. unborn) d.units ++ unborn ∷ [])
+    on_unit (job_step d) (at_birth 0 (program_of d (job_step d)) []) (map (λ unit. unborn_unit) d.units ++ unborn_unit ∷ [])
 
 -- what lives before the first entry
 abbrev pub start : DeckView → World

@@ -1,3 +1,5 @@
+//! Aborts.
+
 use crate::entry::Class;
 use rtm_codes::Code;
 

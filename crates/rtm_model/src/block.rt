@@ -1,3 +1,5 @@
+//! Request blocks, and places in programs.
+
 /// A place in a program: the program's number in the deck, and the operation's, from 1.
 ///
 /// The place behind a program's last card has the number of cards plus one, and acts as RETURN.

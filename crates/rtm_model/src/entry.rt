@@ -1,8 +1,10 @@
+//! The entries of a trace.
+
 use crate::block::Place;
 use crate::mark::Mark;
 use crate::reg::Kind;
 use rtm_codes::Code;
-use rtm_items::Res;
+use rtm_deck_items::Res;
 
 /// The class of an abort that comes from outside of the unit (this profile).
 #[derive(Clone, Copy, Debug, PartialEq, Eq)]

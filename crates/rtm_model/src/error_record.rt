@@ -1,5 +1,7 @@
+//! The record of an error.
+
 use rtm_codes::Code;
-use rtm_items::Name;
+use rtm_deck_items::Name;
 
 /// The ten flags of an error's record (this profile, after the SDWA of MVS Data Areas).
 #[derive(Clone, Copy, Debug, PartialEq, Eq)]

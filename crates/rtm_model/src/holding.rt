@@ -1,4 +1,6 @@
-use rtm_items::Res;
+//! Holdings, and resource managers.
+
+use rtm_deck_items::Res;
 
 /// A resource that a unit holds since the entry `born`; its number is 0 to 999999.
 #[derive(Clone, Copy, Debug, PartialEq, Eq)]

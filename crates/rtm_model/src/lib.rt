@@ -2,7 +2,6 @@
 #![tactic(auto)]
 
 mod abort;
-mod around;
 mod block;
 mod entry;
 mod error_record;
@@ -10,9 +9,9 @@ mod holding;
 mod mark;
 mod outcome;
 mod reg;
+mod surroundings;
 
 pub use abort::Abort;
-pub use around::Around;
 pub use block::{Block, Place};
 pub use entry::{Class, End, Entry, Fate, Verdict, What};
 pub use error_record::{ErrorRecord, RecordFlags};
@@ -20,4 +19,5 @@ pub use holding::{Holding, Manager1};
 pub use mark::Mark;
 pub use outcome::Outcome;
 pub use reg::{Full, Kind, Reg};
-pub use rtm_items::Res;
+pub use rtm_deck_items::Res;
+pub use surroundings::Surroundings;

@@ -1,3 +1,5 @@
+//! What an entry shows of a record.
+
 use rtm_codes::Code;
 
 /// What an entry shows of an error's record.

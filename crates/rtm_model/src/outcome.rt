@@ -1,3 +1,5 @@
+//! What a card does.
+
 use rtm_codes::Code;
 
 /// What the card at a unit's place does.

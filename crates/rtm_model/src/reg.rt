@@ -1,3 +1,5 @@
+//! Recovery routines and managers' routines, as they are registered.
+
 /// What kind of routine was entered (Authorized Assembler Services Guide, "Providing recovery").
 #[derive(Clone, Copy, Debug, PartialEq, Eq)]
 pub enum Kind {

@@ -2,13 +2,13 @@
 
 ghost use Rattle.std.specs.Prelude.{◌≡◌, ◌+◌, ◌<◌, ◌∷◌, [], length, reverse, vec_len, vec_capacity, is_some};
 ghost use Rattle.std.specs.List.{list_any};
-ghost use Rattle.rtm_model.specs.Record.{setrp_in, percolated, inner_failed};
-ghost use Rattle.rtm_model.specs.Levels.{innermost, enclosing, shields, shielded, on_record, with_open, after_verdict, failed_by};
+ghost use Rattle.rtm_model.specs.Record.{setrp_in, after_percolation, inner_failed};
+ghost use Rattle.rtm_model.specs.Levels.{innermost_bracket, enclosing_bracket, shields, shielded, on_record, with_open, after_verdict, after_inner_failure};
 ghost use Rattle.rtm_model.specs.Cards.{manages, in_manager};
 ghost use Rattle.rtm_model.specs.SetrpCard.{is_setrp_card};
 ghost use Rattle.std.specs.Prelude.{IsTrue, None, Some};
 
-use rtm_items::Setrp;
+use rtm_deck_items::Setrp;
 use rtm_model::{Kind, Reg, Verdict};
 use rtm_sdwa::Sdwa;
 use std::marker::Model;
@@ -21,9 +21,9 @@ pub(crate) struct Bracket {
 }
 
 impl Model for Bracket {
-    ghost use Rattle.rtm_model.specs.Levels.{Level};
+    ghost use Rattle.rtm_model.specs.Levels.{Bracket};
 
-    ghost Value = { Level };
+    ghost Value = { Bracket };
 
     ghost view = { λ a. record { routine = a.routine; error = a.error } };
 
@@ -79,9 +79,9 @@ impl Bracket {
         }
     }
 
-    /// With its error percolated.
-    fn percolated(self) -> Bracket
-        ensures { result ≡ on_record percolated self }
+    // With its error percolated.
+    fn after_percolation(self) -> Bracket
+        ensures { result ≡ on_record after_percolation self }
     {
         match self.error {
             None => self,
@@ -92,9 +92,9 @@ impl Bracket {
         }
     }
 
-    /// With what a routine's failure by that error makes of its error's record.
-    fn failed_by(self, inner: Option<Sdwa>) -> Bracket
-        ensures { result ≡ on_record (failed_by inner) self }
+    // With what a routine's failure by that error makes of its error's record.
+    fn after_inner_failure(self, inner: Option<Sdwa>) -> Bracket
+        ensures { result ≡ on_record (after_inner_failure inner) self }
     {
         match (self.error, inner) {
             (Some(mut sdwa), Some(inner)) => {
@@ -112,8 +112,8 @@ impl Bracket {
     {
         match verdict {
             Verdict::Retry(_) => self.with_open(None),
-            Verdict::Perc | Verdict::Stop | Verdict::Bad => self.percolated(),
-            Verdict::Fail => self.failed_by(inner),
+            Verdict::Perc | Verdict::Stop | Verdict::Bad => self.after_percolation(),
+            Verdict::Fail => self.after_inner_failure(inner),
             Verdict::Over => self,
         }
     }
@@ -140,15 +140,15 @@ pub(crate) fn take(list: &mut Vec<Bracket>) -> Bracket
 }
 
 /// The newest bracket.
-pub(crate) fn innermost(list: &[Bracket]) -> Option<Bracket>
-    ensures { result ≡ innermost (reverse list.now) }
+pub(crate) fn innermost_bracket(list: &[Bracket]) -> Option<Bracket>
+    ensures { result ≡ innermost_bracket (reverse list.now) }
 {
     list.last().copied()
 }
 
 /// The bracket that encloses it.
-pub(crate) fn enclosing(list: &[Bracket]) -> Option<Bracket>
-    ensures { result ≡ enclosing (reverse list.now) }
+pub(crate) fn enclosing_bracket(list: &[Bracket]) -> Option<Bracket>
+    ensures { result ≡ enclosing_bracket (reverse list.now) }
 {
     match list {
         [.., second, _newest] => Some(*second),

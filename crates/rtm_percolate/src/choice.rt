@@ -1,3 +1,5 @@
+//! What an open error leads to.
+
 use rtm_model::Reg;
 use rtm_sdwa::Sdwa;
 

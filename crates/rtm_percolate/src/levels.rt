@@ -1,5 +1,7 @@
+//! The brackets of a unit, with their routines and open errors.
+
 ghost use Rattle.std.specs.Prelude.{◌≡◌, ◌<◌, ◌≤◌, ◌↔◌, ◌||◌, ◌&&◌, Bool, not, is_some, length, IsTrue, IsSome, IfSome, IfOk, Some, None};
-ghost use Rattle.rtm_model.specs.Levels.{outermost_alone, innermost, enclosing, routine_of, error_of, current, error_in, error_here, depth_in, is_manager, is_recovery, recovers, record_in, shielded, first_eligible, next_frr, next_estai_at, verdict_in, judged_by, after_error, after_enter, after_setrp, after_leave};
+ghost use Rattle.rtm_model.specs.Levels.{outermost_alone, innermost_bracket, enclosing_bracket, routine_of, error_of, current, error_in, error_here, depth_in, is_manager, is_recovery, recovers, record_in, shielded, first_eligible, next_frr, next_estai_at, verdict_in, verdict_of_routine, after_error, after_enter, after_setrp, after_leave};
 ghost use Rattle.rtm_model.specs.Cards.{in_manager};
 ghost use Rattle.rtm_model.specs.SetrpCard.{is_setrp_card};
 ghost use Rattle.rtm_percolate.specs.Choices.{choice_for};
@@ -9,18 +11,18 @@ use crate::bracket::{self, Bracket, OUTERMOST};
 use crate::choice::Choice;
 use rtm_chains::{EstaeChain, EstaiList, FrrStack};
 use rtm_codes::NoMemory;
-use rtm_items::{Deck, Setrp};
+use rtm_deck_items::{Deck, Setrp};
 use rtm_model::{Kind, Reg, Verdict};
 use rtm_sdwa::Sdwa;
 use std::alloc::Global;
 use std::marker::Model;
 
-/// At most this many brackets of a unit (this profile).
+// At most this many brackets of a unit (this profile).
 const MOST_BRACKETS: usize = 16;
 
 /// The brackets of a unit, at most 16 (this profile), each with the routine that runs in it and its open error.
 ///
-/// A contract sees them as a list of levels, newest first. The last is the outermost bracket, which is always there and
+/// A contract sees them as a list of brackets, newest first. The last is the outermost bracket, which is always there and
 /// has no routine. Every other bracket was entered for a recovery routine, and then the error that it was entered for is
 /// open in the enclosing one, or for a resource manager.
 #[derive(Drop)]
@@ -30,17 +32,17 @@ pub struct Levels {
 
 impl Model for Levels {
     ghost use Rattle.std.specs.Prelude.{◌<◌, ◌≤◌, List, length, reverse, vec_capacity};
-    ghost use Rattle.rtm_model.specs.Levels.{Level};
+    ghost use Rattle.rtm_model.specs.Levels.{Bracket};
     ghost use Rattle.rtm_percolate.specs.Nested.{IsNested};
 
-    ghost Value = { List Level };
+    ghost Value = { List Bracket };
 
     ghost view = { λ a. reverse a.list.items };
 
     ghost invariant = { λ a. IsNested (reverse a.list.items) × (0 < length a.list.items) × (length a.list.items ≤ 16) × (16 ≤ vec_capacity a.list) };
 }
 
-/// The routine that runs in the bracket, if one is there.
+// The routine that runs in the bracket, if one is there.
 fn routine_of(bracket: Option<Bracket>) -> Option<Reg>
     ensures { result ≡ routine_of bracket }
 {
@@ -50,7 +52,7 @@ fn routine_of(bracket: Option<Bracket>) -> Option<Reg>
     }
 }
 
-/// The record of the bracket's open error, if one is there.
+// The record of the bracket's open error, if one is there.
 fn error_of(bracket: Option<Bracket>) -> Option<Sdwa>
     ensures { result ≡ error_of bracket }
 {
@@ -69,9 +71,14 @@ fn is_recovery(routine: Option<Reg>) -> bool
     }
 }
 
-/// The verdict by the record of the routine; Over where it has none.
-fn judged_by(deck: &Deck, retry_prog: u16, routine: Option<Reg>, sdwa: Option<Sdwa>) -> Verdict
-    ensures value { result ≡ judged_by deck.now retry_prog routine sdwa }
+// The verdict by the record of the routine; Over where it has none.
+fn verdict_of_routine(
+    deck: &Deck,
+    retry_prog: u16,
+    routine: Option<Reg>,
+    sdwa: Option<Sdwa>,
+) -> Verdict
+    ensures value { result ≡ verdict_of_routine deck.now retry_prog routine sdwa }
     ensures over { is_over result ≡ not (is_some routine && is_some sdwa) }
 {
     match (routine, sdwa) {
@@ -80,7 +87,7 @@ fn judged_by(deck: &Deck, retry_prog: u16, routine: Option<Reg>, sdwa: Option<Sd
     }
 }
 
-/// The first eligible routine for an error of the bracket of that depth.
+// The first eligible routine for an error of the bracket of that depth.
 fn first_eligible(
     depth: u8,
     term_only: bool,
@@ -124,7 +131,7 @@ impl Levels {
     pub fn error(&self) -> Option<Sdwa>
         ensures { result ≡ error_in self.now }
     {
-        error_of(bracket::innermost(&self.list))
+        error_of(bracket::innermost_bracket(&self.list))
     }
 
     /// How many brackets enclose the newest one, 0 to 15.
@@ -210,7 +217,7 @@ impl Levels {
     pub fn current(&self) -> Option<Reg>
         ensures { result ≡ current self.now }
     {
-        routine_of(bracket::innermost(&self.list))
+        routine_of(bracket::innermost_bracket(&self.list))
     }
 
     /// Whether a recovery routine runs in the newest bracket.
@@ -227,7 +234,7 @@ impl Levels {
         ensures which { IsSome result ↔ IsTrue (recovers self.now) }
     {
         if self.recovers() {
-            error_of(bracket::enclosing(&self.list))
+            error_of(bracket::enclosing_bracket(&self.list))
         } else {
             None
         }
@@ -256,7 +263,7 @@ impl Levels {
         ensures value { result ≡ verdict_in deck.now retry_prog self.now }
         ensures over { is_over result ≡ not (recovers self.now) }
     {
-        judged_by(deck, retry_prog, self.current(), self.sdwa())
+        verdict_of_routine(deck, retry_prog, self.current(), self.sdwa())
     }
 
     /// Closes an inner bracket whose routine has ended: its error is retried, percolates, or stays as it is where the

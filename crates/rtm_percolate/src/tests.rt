@@ -1,10 +1,12 @@
+//! Which routine an error enters, and what a routine's end leaves.
+
 ghost use Rattle.std.specs.Prelude.{◌≡◌, IsTrue};
 ghost use Rattle.rtm_model.specs.SetrpCard.{is_return_code, is_setrp_card};
 
 use crate::{Choice, Levels, laws};
 use rtm_chains::{EstaeChain, EstaiList, FrrStack};
 use rtm_codes::Code;
-use rtm_items::{Name, Setrp};
+use rtm_deck_items::{Name, Setrp};
 use rtm_model::{Kind, Place, RecordFlags, Reg, Verdict};
 use rtm_sdwa::{Sdwa, SdwaFlags};
 use std::test::Fail;
@@ -35,7 +37,7 @@ const NO_FLAGS: RecordFlags = RecordFlags {
     fresdwa: false,
 };
 
-/// An abend 0C1, and a cancel's record, which forbids a retry and admits routines with TERM=YES alone.
+// An abend 0C1, and a cancel's record, which forbids a retry and admits routines with TERM=YES alone.
 fn abend() -> Sdwa {
     Sdwa::fresh(Code::Sys(0x0c1), None, SdwaFlags::of(NO_FLAGS))
 }
@@ -49,7 +51,7 @@ fn cancel() -> Sdwa {
     Sdwa::fresh(Code::Sys(0x222), None, flags)
 }
 
-/// A routine of that bracket, which shields nothing.
+// A routine of that bracket, which shields nothing.
 fn routine(kind: Kind, born: u32, depth: u8, term: bool) -> Reg
     ensures { result.kind ≡ kind }
 {
@@ -65,9 +67,9 @@ fn routine(kind: Kind, born: u32, depth: u8, term: bool) -> Reg
     }
 }
 
-/// What a choice says: the birth of the routine that is entered, 100 more where it has failed, or the code
-/// of a begin.
-fn said(choice: Choice) -> (Option<u32>, Option<Code>) {
+// What a choice says: the birth of the routine that is entered, 100 more where it has failed, or the code
+// of a begin.
+fn answer_of(choice: Choice) -> (Option<u32>, Option<Code>) {
     match choice {
         Choice::Enter(reg) => (Some(reg.born), None),
         Choice::FailRoutine(reg) => (Some(reg.born.saturating_add(100)), None),
@@ -75,7 +77,7 @@ fn said(choice: Choice) -> (Option<u32>, Option<Code>) {
     }
 }
 
-/// FRRs before ESTAE routines, newest first, ESTAI routines last; and of a cancel's error those with TERM=YES alone.
+// FRRs before ESTAE routines, newest first, ESTAI routines last; and of a cancel's error those with TERM=YES alone.
 #[test]
 fn chooses_in_order(rt: HostRuntime) -> Result<(), Fail> {
     let cases = [
@@ -109,7 +111,7 @@ fn chooses_in_order(rt: HostRuntime) -> Result<(), Fail> {
         for born in births {
             let choice = levels.choose(&frrs, &estaes, &estais);
             let want = if born.is_some() { None } else { Some(code) };
-            assert_eq!(rt; said(choice), (born, want), "at {code:?}");
+            assert_eq!(rt; answer_of(choice), (born, want), "at {code:?}");
             let gone = born.unwrap_or(0);
             frrs.remove(gone);
             estaes.remove(gone);
@@ -119,7 +121,7 @@ fn chooses_in_order(rt: HostRuntime) -> Result<(), Fail> {
     Ok(())
 }
 
-/// An error in a routine that nothing handles: the routine has failed, and a cancel there is handed on.
+// An error in a routine that nothing handles: the routine has failed, and a cancel there is handed on.
 #[test]
 fn hands_a_cancel_on(rt: HostRuntime) -> Result<(), Fail> {
     let cases = [
@@ -138,11 +140,11 @@ fn hands_a_cancel_on(rt: HostRuntime) -> Result<(), Fail> {
         assert_eq!(rt; (levels.depth(), levels.error_here()), (1, false));
         levels.open_error(error);
         let choice = levels.choose(&frrs, &estaes, &estais);
-        assert_eq!(rt; said(choice), (Some(106), None), "at {code:?}");
+        assert_eq!(rt; answer_of(choice), (Some(106), None), "at {code:?}");
         levels.fail();
         assert_eq!(rt; (levels.depth(), levels.error_here()), (0, true));
         let choice = levels.choose(&frrs, &estaes, &estais);
-        assert_eq!(rt; said(choice), (next, None), "at {code:?}");
+        assert_eq!(rt; answer_of(choice), (next, None), "at {code:?}");
         levels.enter(routine(Kind::Estae, 3, 0, true));
         let mark = levels.sdwa().map(|sdwa| sdwa.mark());
         assert_eq!(rt; mark.map(|mark| (mark.code, mark.staf)), Some((code, true)));
@@ -168,7 +170,7 @@ fn asks(rc: u8) -> Setrp
     }
 }
 
-/// A retry closes the error, percolation leaves it, and a resource manager has no record.
+// A retry closes the error, percolation leaves it, and a resource manager has no record.
 #[test]
 fn closes_by_verdict(rt: HostRuntime) -> Result<(), Fail> {
     let mut levels = Levels::with_room(rt.alloc())?;
@@ -200,7 +202,7 @@ fn closes_by_verdict(rt: HostRuntime) -> Result<(), Fail> {
     Ok(())
 }
 
-/// Which routines no abort interrupts.
+// Which routines no abort interrupts.
 #[test]
 fn some_routines_shield(rt: HostRuntime) -> Result<(), Fail> {
     let cases = [

@@ -9,7 +9,7 @@ use Rattle.std.proofs.lemmas.Bool.Decides.{nat_tests}
 use Rattle.rtm_codes.specs.declared.code.Code.{Code}
 use Rattle.rtm_codes.specs.declared.code.Code.TheVariants.{Sys, User}
 use Rattle.rtm_codes.specs.Code.{IsInRange, packed_of}
-use Rattle.rtm_operands.specs.Name.{is_padded_name}
+use Rattle.rtm_deck_operands.specs.Name.{is_padded_name}
 use Rattle.rtm_model.specs.declared.error_record.ErrorRecord.{ErrorRecord}
 use Rattle.rtm_sdwa.specs.Flags.{flags_of, word_of}
 use Rattle.rtm_sdwa.specs.Bytes.{bytes_of, label_field}

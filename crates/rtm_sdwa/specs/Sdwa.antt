@@ -1,7 +1,7 @@
 -- What each SDWA keeps (this profile).
 use Rattle.std.specs.Prelude.{◌≡◌, ◌<◌, ◌^◌, IfSome, IsTrue, is_some}
 use Rattle.rtm_codes.specs.Code.{IsInRange}
-use Rattle.rtm_operands.specs.Name.{is_padded_name}
+use Rattle.rtm_deck_operands.specs.Name.{is_padded_name}
 use Rattle.rtm_model.specs.declared.error_record.ErrorRecord.{ErrorRecord}
 use Rattle.rtm_model.specs.declared.entry.Verdict.{Verdict}
 use Rattle.rtm_model.specs.declared.entry.Verdict.TheVariants.{Fail, Over}

@@ -15,10 +15,10 @@ use crate::sdwa::Sdwa;
 use bitflags::Flags;
 use rtm_codes::{Code, packed, unpacked};
 
-/// How many bytes an SDWA has.
+// How many bytes an SDWA has.
 const SDWA_LEN: usize = 48;
 
-/// Where the parts stand behind the eye catcher.
+// Where the parts stand behind the eye catcher.
 const CODE_AT: usize = 4;
 
 const FIRST_AT: usize = 8;
@@ -31,7 +31,7 @@ const RC_AT: usize = 18;
 
 const LABEL_AT: usize = 20;
 
-/// Writes a part into its place.
+// Writes a part into its place.
 fn put(bytes: &mut [u8; SDWA_LEN], at: usize, part: &[u8])
     requires { at + length part.now ≤ 48 }
     ensures { bytes.new ≡ take at bytes.old ++ (part.now ++ drop (at + length part.now) bytes.old) }
@@ -59,7 +59,7 @@ pub fn sdwa_bytes(sdwa: &Sdwa) -> [u8; SDWA_LEN]
     bytes
 }
 
-/// The number of four bytes.
+// The number of four bytes.
 fn word_at(bytes: &[u8; SDWA_LEN], at: usize) -> u32
     requires { at + 4 ≤ 48 }
     ensures { result ≡ from_be_bytes w32 (slice_index bytes.now at ∷ slice_index bytes.now (at + 1) ∷ slice_index bytes.now (at + 2) ∷ slice_index bytes.now (at + 3) ∷ []) }
@@ -67,14 +67,14 @@ fn word_at(bytes: &[u8; SDWA_LEN], at: usize) -> u32
     u32::from_be_bytes([bytes[at], bytes[at + 1], bytes[at + 2], bytes[at + 3]])
 }
 
-/// The number of the two bytes of the flags.
+// The number of the two bytes of the flags.
 fn flags_at(bytes: &[u8; SDWA_LEN]) -> u16
     ensures { result ≡ from_be_bytes w16 (slice_index bytes.now 16 ∷ slice_index bytes.now 17 ∷ []) }
 {
     u16::from_be_bytes([bytes[FLAGS_AT], bytes[FLAGS_AT + 1]])
 }
 
-/// The eight bytes of the label.
+// The eight bytes of the label.
 fn label_at(bytes: &[u8; SDWA_LEN]) -> [u8; FIELD_LEN]
     ensures { result ≡ take 8 (drop 20 bytes.now) }
 {
@@ -83,7 +83,7 @@ fn label_at(bytes: &[u8; SDWA_LEN]) -> [u8; FIELD_LEN]
     field
 }
 
-/// The code of that word; that of normal end where no code has it.
+// The code of that word; that of normal end where no code has it.
 fn code_in(word: u32) -> Code
     ensures in_range { IsInRange result }
     ensures only { (code : Code) → IsInRange code → packed_of code ≡ word → result ≡ code }
@@ -94,14 +94,14 @@ fn code_in(word: u32) -> Code
     }
 }
 
-/// The reason, where there is one.
+// The reason, where there is one.
 fn reason_in(stands: bool, word: u32) -> Option<u32>
     ensures { result ≡ (if stands then Some word else None) }
 {
     if stands { Some(word) } else { None }
 }
 
-/// The return code; 0 for a byte that is none.
+// The return code; 0 for a byte that is none.
 fn rc_in(byte: u8) -> u8
     ensures in_range { IsTrue (is_return_code result) }
     ensures only { IsTrue (is_return_code byte) → result ≡ byte }
@@ -109,8 +109,8 @@ fn rc_in(byte: u8) -> u8
     if byte == 4 || byte == 16 { byte } else { 0 }
 }
 
-/// The record whose bytes these are. Where they are those of none, a record which has other bytes.
-fn nearest(bytes: &[u8; SDWA_LEN]) -> Sdwa
+// The record whose bytes these are. Where they are those of none, a record which has other bytes.
+fn nearest_record(bytes: &[u8; SDWA_LEN]) -> Sdwa
     ensures { (r : ErrorRecord) → IsSdwa r → bytes_of r ≡ bytes.now → result ≡ r }
 {
     let flags = SdwaFlags::from_bits_retain(flags_at(bytes)).ten();
@@ -133,7 +133,7 @@ pub fn sdwa_read(bytes: &[u8; SDWA_LEN]) -> Option<Sdwa>
     ensures only { (r : ErrorRecord) → IsSdwa r → bytes_of r ≡ bytes.now → result ≡ Some r }
     ensures none { IfNone result ((r : ErrorRecord) → IsSdwa r → bytes_of r ≢ bytes.now) }
 {
-    let sdwa = nearest(bytes);
+    let sdwa = nearest_record(bytes);
     if sdwa_bytes(&sdwa) == *bytes {
         Some(sdwa)
     } else {

@@ -1,3 +1,5 @@
+//! The flags of a record, and their bits.
+
 ghost use Rattle.std.specs.Prelude.{⊤, ◌≡◌, ◌≤◌, ◌↔◌, IsTrue, [], ◌∷◌, codes};
 ghost use Rattle.rtm_sdwa.specs.Flags.{flags_of, word_of, bit_where, HasFlagsAlone};
 
@@ -10,25 +12,25 @@ pub struct SdwaFlags(u16);
 
 bitflag_items! {
     impl SdwaFlags: u16 {
-        /// No retry.
+        // No retry.
         const CLUP = 0x8000;
-        /// A routine has percolated.
+        // A routine has percolated.
         const PERC = 0x4000;
-        /// A routine has failed.
+        // A routine has failed.
         const STAF = 0x2000;
-        /// The job step is to end.
+        // The job step is to end.
         const STEP = 0x1000;
-        /// There is a reason code.
+        // There is a reason code.
         const REASON = 0x0800;
-        /// Routines with TERM=YES alone are eligible.
+        // Routines with TERM=YES alone are eligible.
         const TERMONLY = 0x0400;
-        /// A dump is asked for.
+        // A dump is asked for.
         const DUMP = 0x0200;
-        /// The routine is to be removed at a retry.
+        // The routine is to be removed at a retry.
         const REMREC = 0x0100;
-        /// The record is to be logged.
+        // The record is to be logged.
         const LOGREC = 0x0080;
-        /// The record's storage is to be freed.
+        // The record's storage is to be freed.
         const FRESDWA = 0x0040;
     }
 }
@@ -57,7 +59,7 @@ impl Flags for SdwaFlags {
     }
 }
 
-/// The flag's bit where it stands, else 0.
+// The flag's bit where it stands, else 0.
 fn bit_where(bit: u16, flag: bool) -> u16
     ensures value { result ≡ bit_where bit flag }
     ensures bound { result ≤ bit }

@@ -2,11 +2,11 @@
 
 ghost use Rattle.std.specs.Prelude.{◌≡◌, ◌==◌, ◌≤◌, length, Some, None, if◌then◌else◌};
 ghost use Rattle.std.specs.List.{list_all};
-ghost use Rattle.rtm_operands.specs.Name.{is_padded_name, trimmed};
+ghost use Rattle.rtm_deck_operands.specs.Name.{is_padded_name, trimmed_text};
 ghost use Rattle.rtm_sdwa.specs.Bytes.{label_field};
 
 use rtm_cards::is_name;
-use rtm_items::Name;
+use rtm_deck_items::Name;
 
 /// How many bytes a name has with its padding.
 pub(crate) const FIELD_LEN: usize = 8;
@@ -47,7 +47,7 @@ fn is_padding(bytes: &[u8]) -> bool
 }
 
 fn trimmed_len(bytes: &[u8]) -> usize
-    ensures value { result ≡ length (trimmed bytes.now) }
+    ensures value { result ≡ length (trimmed_text bytes.now) }
     ensures bound { result ≤ length bytes.now }
 {
     bytes.iter().take_while(|byte| **byte != b' ').count()

@@ -1,15 +1,17 @@
+//! The record of an error: its steps and its verdict.
+
 ghost use Rattle.std.specs.Prelude.{◌≡◌, IsTrue};
 ghost use Rattle.std.specs.Option.{unwrap_or};
 ghost use Rattle.rtm_codes.specs.Code.{IsInRange};
 ghost use Rattle.rtm_model.specs.NextEntry.{card_record, landed_flags, landed_record};
-ghost use Rattle.rtm_model.specs.Record.{no_flags, fresh, mark_of, set_by, setrp_in, asked_nothing, percolated, after_failure, taken_over, inner_failed, retry_place, verdict_by, verdict};
+ghost use Rattle.rtm_model.specs.Record.{no_flags, fresh, mark_of, set_by, setrp_in, without_requests, after_percolation, after_failure, after_takeover, inner_failed, retry_place, verdict_by, verdict};
 ghost use Rattle.rtm_model.specs.SetrpCard.{is_return_code, is_given_return_code, is_given_abend, is_setrp_card};
 ghost use Rattle.rtm_sdwa.specs.Flags.{flags_of};
 ghost use Rattle.rtm_sdwa.specs.Sdwa.{IsKept, IsOnRecord};
 
 use crate::flags::SdwaFlags;
 use rtm_codes::Code;
-use rtm_items::{Deck, Name, Setrp, Three};
+use rtm_deck_items::{Deck, Name, Setrp, Three};
 use rtm_model::{Abort, Kind, Mark, Place, RecordFlags, Verdict};
 use std::marker::Model;
 
@@ -74,7 +76,7 @@ impl Model for Sdwa {
     } };
 }
 
-/// What DUMP= or RECORD= makes of its flag.
+// What DUMP= or RECORD= makes of its flag.
 fn set_by(option: Option<Three>, flag: bool) -> bool
     ensures { result ≡ set_by option flag }
 {
@@ -85,7 +87,7 @@ fn set_by(option: Option<Three>, flag: bool) -> bool
     }
 }
 
-/// The code that COMPCOD= gives, or what was there.
+// The code that COMPCOD= gives, or what was there.
 fn code_or(given: Option<Code>, code: Code) -> Code
     requires given { IsTrue (is_given_abend given) }
     requires code { IsInRange code }
@@ -98,7 +100,7 @@ fn code_or(given: Option<Code>, code: Code) -> Code
     }
 }
 
-/// The return code that RC= gives, or what was there.
+// The return code that RC= gives, or what was there.
 fn rc_or(given: Option<u8>, rc: u8) -> u8
     requires given { IsTrue (is_given_return_code given) }
     requires rc { IsTrue (is_return_code rc) }
@@ -111,7 +113,7 @@ fn rc_or(given: Option<u8>, rc: u8) -> u8
     }
 }
 
-/// No flag.
+// No flag.
 fn no_flags() -> RecordFlags
     ensures { result ≡ no_flags }
 {
@@ -129,7 +131,7 @@ fn no_flags() -> RecordFlags
     }
 }
 
-/// What a landed abort asks for.
+// What a landed abort asks for.
 fn landed_flags(abort: &Abort) -> RecordFlags
     ensures { result ≡ landed_flags abort.now }
 {
@@ -141,9 +143,9 @@ fn landed_flags(abort: &Abort) -> RecordFlags
     }
 }
 
-/// What a routine asked for is forgotten.
-fn asked_nothing(flags: RecordFlags) -> RecordFlags
-    ensures { result ≡ asked_nothing flags }
+// What a routine asked for is forgotten.
+fn without_requests(flags: RecordFlags) -> RecordFlags
+    ensures { result ≡ without_requests flags }
 {
     RecordFlags {
         remrec: false,
@@ -217,7 +219,7 @@ impl Sdwa {
         self.retaddr = card.retaddr.or(self.retaddr);
     }
 
-    /// Where the error would be retried, if it would.
+    // Where the error would be retried, if it would.
     fn retry_place(&self, retry_prog: u16, deck: &Deck) -> Option<Place>
         ensures { result ≡ retry_place deck.now retry_prog self.now }
     {
@@ -256,11 +258,11 @@ impl Sdwa {
 
     /// The routine has percolated: PERC stands, and what it asked for is forgotten.
     pub fn percolate(&mut self)
-        ensures { self.new ≡ percolated self.old }
+        ensures { self.new ≡ after_percolation self.old }
     {
         self.flags = SdwaFlags::of(RecordFlags {
             perc: true,
-            ..asked_nothing(self.flags.ten())
+            ..without_requests(self.flags.ten())
         });
         self.rc = 0;
         self.retaddr = None;
@@ -274,7 +276,7 @@ impl Sdwa {
         let theirs = inner.flags.ten();
         let flags = RecordFlags {
             staf: true,
-            ..asked_nothing(self.flags.ten())
+            ..without_requests(self.flags.ten())
         };
         self.rc = 0;
         self.retaddr = None;

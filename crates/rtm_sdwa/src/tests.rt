@@ -1,10 +1,12 @@
+//! Records: their flags, steps, verdicts and bytes.
+
 ghost use Rattle.std.specs.Prelude.{IsTrue};
 ghost use Rattle.rtm_model.specs.SetrpCard.{is_given_return_code};
 
 use crate::{Sdwa, SdwaFlags, sdwa_bytes, sdwa_read};
 use bitflags::Flags;
 use rtm_codes::Code;
-use rtm_items::{Name, Setrp, Three};
+use rtm_deck_items::{Name, Setrp, Three};
 use rtm_model::{Abort, Class, Kind, Place, RecordFlags, Verdict};
 use std::test::Fail;
 
@@ -40,7 +42,7 @@ const NO_OPTIONS: Setrp = Setrp {
     fresdwa: None,
 };
 
-/// Each flag and its bit, from the table of the record's layout.
+// Each flag and its bit, from the table of the record's layout.
 #[test]
 fn each_flag_has_its_bit(rt: HostRuntime) {
     let cases = [
@@ -63,7 +65,7 @@ fn each_flag_has_its_bit(rt: HostRuntime) {
     assert!(rt; !SdwaFlags::from_bits_retain(0x0020).is_of_ten());
 }
 
-/// What the errors of cards, and the aborts that land, ask for at first.
+// What the errors of cards, and the aborts that land, ask for at first.
 #[test]
 fn starts_with_what_is_asked_for(rt: HostRuntime) {
     let abort = Abort {
@@ -119,7 +121,7 @@ fn starts_with_what_is_asked_for(rt: HostRuntime) {
     }
 }
 
-/// The bytes of an 0C4 with the reason 10, and of a user abend 4095 after a label was set.
+// The bytes of an 0C4 with the reason 10, and of a user abend 4095 after a label was set.
 #[test]
 fn writes_and_reads_bytes(rt: HostRuntime) {
     let mut abend = Sdwa::fresh(Code::User(4095), None, SdwaFlags::of(NO_FLAGS));
@@ -145,7 +147,7 @@ fn writes_and_reads_bytes(rt: HostRuntime) {
     }
 }
 
-/// One byte of a record's bytes, written over, which no record has.
+// One byte of a record's bytes, written over, which no record has.
 #[test]
 fn reads_no_other_bytes(rt: HostRuntime) {
     let bytes =
@@ -174,7 +176,7 @@ fn reads_no_other_bytes(rt: HostRuntime) {
     }
 }
 
-/// SETRP's DUMP=, and what percolation leaves of what a routine asked for.
+// SETRP's DUMP=, and what percolation leaves of what a routine asked for.
 #[test]
 fn sets_and_forgets_options(rt: HostRuntime) {
     let cases = [
@@ -206,7 +208,7 @@ fn sets_and_forgets_options(rt: HostRuntime) {
     }
 }
 
-/// A cancel of a routine: its record's code, reason and flags, on or off, are taken over, and STEP stays.
+// A cancel of a routine: its record's code, reason and flags, on or off, are taken over, and STEP stays.
 #[test]
 fn hands_a_cancel_on(rt: HostRuntime) {
     let cancel = SdwaFlags::of(RecordFlags {
@@ -235,8 +237,8 @@ fn hands_a_cancel_on(rt: HostRuntime) {
     }
 }
 
-/// A record whose routine asked for that.
-fn asked(rc: Option<u8>) -> Sdwa
+// A record whose routine asked for that.
+fn record_with_rc(rc: Option<u8>) -> Sdwa
     requires { IsTrue (is_given_return_code rc) }
 {
     let mut sdwa = Sdwa::fresh(Code::Sys(0x0c1), None, SdwaFlags::of(NO_FLAGS));
@@ -244,22 +246,22 @@ fn asked(rc: Option<u8>) -> Sdwa
     sdwa
 }
 
-/// The table of verdicts, with the place of a retry or none.
+// The table of verdicts, with the place of a retry or none.
 #[test]
 fn judges_by_the_table(rt: HostRuntime) {
     let place = Place { prog: 0, op: 2 };
     let cases = [
         (
             Kind::Frr,
-            asked(Some(4)),
+            record_with_rc(Some(4)),
             Some(place),
             Verdict::Retry(place),
         ),
-        (Kind::Estae, asked(Some(4)), None, Verdict::Bad),
-        (Kind::Estae, asked(Some(16)), None, Verdict::Bad),
-        (Kind::Estai, asked(Some(16)), None, Verdict::Stop),
-        (Kind::Estai, asked(Some(0)), None, Verdict::Perc),
-        (Kind::Frr, asked(None), None, Verdict::Perc),
+        (Kind::Estae, record_with_rc(Some(4)), None, Verdict::Bad),
+        (Kind::Estae, record_with_rc(Some(16)), None, Verdict::Bad),
+        (Kind::Estai, record_with_rc(Some(16)), None, Verdict::Stop),
+        (Kind::Estai, record_with_rc(Some(0)), None, Verdict::Perc),
+        (Kind::Frr, record_with_rc(None), None, Verdict::Perc),
     ];
     for (kind, sdwa, place, want) in cases {
         assert_eq!(rt; sdwa.verdict_by(kind, place), want, "at {kind:?} {sdwa:?}");

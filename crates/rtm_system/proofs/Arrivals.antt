@@ -4,18 +4,18 @@ use Rattle.std.specs.Prelude.{if◌then◌else◌, is_none, is_some, nat_le, not
 use Rattle.std.specs.Option.{option_map_or}
 use Rattle.std.proofs.lemmas.Bool.{leb-true}
 use Rattle.rtm_codes.specs.declared.code.Code.{Code}
-use Rattle.rtm_items.specs.declared.deck.Command.{Command}
-use Rattle.rtm_items.specs.View.{DeckView}
+use Rattle.rtm_deck_items.specs.declared.deck.Command.{Command}
+use Rattle.rtm_deck_items.specs.View.{DeckView}
 use Rattle.rtm_model.specs.declared.entry.Entry.{Entry}
 use Rattle.rtm_model.specs.declared.entry.Fate.{Fate}
 use Rattle.rtm_model.specs.Arrivals.{arrival, arrival_fate, arrival_of, goes_on, is_cancellable, is_due, is_in_turn, target_of}
 use Rattle.rtm_model.specs.Births.{world}
-use Rattle.rtm_model.specs.Outside.{fate_in}
+use Rattle.rtm_model.specs.Surroundings.{fate_in}
 use Rattle.rtm_model.specs.Tasks.{Life, Dormant, Lives, HasEnded, Tree, has_ended, is_living, life_of}
 use Rattle.rtm_model.specs.World.{Core, World, core_at}
 use Rattle.rtm_model.specs.declared.entry.Class.TheVariants as classes
 use Rattle.rtm_system.specs.declared.arrived.Arrived.TheVariants as arrivals
-use Rattle.rtm_system.specs.Steps.{arrived, arrives, is_gone}
+use Rattle.rtm_system.specs.Steps.{arrival_answer, arrives, is_gone}
 
 living_not_ended : (life : Life) → is_living life ≡ true → has_ended life ≡ false
 living_not_ended Dormant e = refl
@@ -70,7 +70,7 @@ not_full limit n true e h = absurd (omega (arith, leb-true limit n e, h))
 not_full limit n false e h = refl
 
 -- it is made
-pub arrival_is_made : (d : DeckView) (trace : List Entry) (cmd : ℕ) (e : Entry) → length trace < d.limit → arrival d (world d trace) (length trace) cmd ≡ Some e → arrived d trace cmd ≡ arrivals.Made e
+pub arrival_is_made : (d : DeckView) (trace : List Entry) (cmd : ℕ) (e : Entry) → length trace < d.limit → arrival d (world d trace) (length trace) cmd ≡ Some e → arrival_answer d trace cmd ≡ arrivals.Made e
 arrival_is_made d trace cmd e room h =
     let w = world d trace in
     let gone = not_gone d w cmd (cancellable_by d w (length trace) cmd (slice_get d.commands cmd) e refl h) in

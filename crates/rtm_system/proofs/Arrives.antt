@@ -1,8 +1,8 @@
 -- An arrival that may stand next is that of a command of the deck.
 use Rattle.std.proofs.Common.{◌≡◌, ℕ, ◌<◌, List, length, Option, Some, None, refl, subst}
 use Rattle.std.specs.Prelude.{not, slice_get}
-use Rattle.rtm_items.specs.declared.deck.Command.{Command}
-use Rattle.rtm_items.specs.View.{DeckView}
+use Rattle.rtm_deck_items.specs.declared.deck.Command.{Command}
+use Rattle.rtm_deck_items.specs.View.{DeckView}
 use Rattle.rtm_model.specs.declared.entry.Entry.{Entry}
 use Rattle.rtm_model.specs.declared.entry.Fate.{Fate}
 use Rattle.rtm_model.specs.declared.entry.What.{What}

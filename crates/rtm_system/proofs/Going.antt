@@ -1,16 +1,16 @@
 -- Where a unit has a next entry, the run goes on.
 use Rattle.std.proofs.Common.{◌≡◌, ℕ, suc, ◌≤◌, Bool, true, false, length, Option, Some, None, refl, sym, ap, ◌∙◌, arith}
 use Rattle.std.specs.Prelude.{if◌then◌else◌, is_some, nat_le, not, ◌&&◌}
-use Rattle.rtm_items.specs.View.{DeckView}
+use Rattle.rtm_deck_items.specs.View.{DeckView}
 use Rattle.rtm_model.specs.declared.entry.End.TheVariants as ends
 use Rattle.rtm_model.specs.declared.entry.What.{What}
 use Rattle.rtm_model.specs.Arrivals.{goes_on}
 use Rattle.rtm_model.specs.Legal.{end_in, is_stalled}
 use Rattle.rtm_model.specs.NextEntry.{next}
 use Rattle.rtm_model.specs.World.{World}
-use Rattle.rtm_machine.proofs.Turns.{some_below}
+use Rattle.rtm_system_world.proofs.Turns.{some_below}
 use Rattle.rtm_model.specs.Turns.{entry_of}
-use Rattle.rtm_system.specs.Steps.{made_by, stepped_in, stops}
+use Rattle.rtm_system.specs.Steps.{step_answer_by, step_answer_in, stops}
 use Rattle.rtm_system.specs.declared.stepped.Stepped.{Stepped}
 use Rattle.rtm_system.specs.declared.stepped.Stepped.TheVariants.{AtLimit, IsOver, Made}
 
@@ -51,9 +51,9 @@ last_of false true x y z e f = absurd cc
 last_of false false x y z e f = refl
 
 -- what is answered where a unit has a next entry and the address space hasn't ended
-pub answers_limit : (d : DeckView) (w : World) (n u : ℕ) (what : What) → w.over ≡ false → u ≤ length d.units → next d w u ≡ Some what → nat_le d.limit n ≡ true → AtLimit ≡ stepped_in d w n u
-answers_limit d w n u what over h e full = third (stops (end_in d w n)) (nat_le d.limit n) IsOver AtLimit (made_by u (next d w u)) (nothing_stops d w n u what over h e) full
+pub answers_limit : (d : DeckView) (w : World) (n u : ℕ) (what : What) → w.over ≡ false → u ≤ length d.units → next d w u ≡ Some what → nat_le d.limit n ≡ true → AtLimit ≡ step_answer_in d w n u
+answers_limit d w n u what over h e full = third (stops (end_in d w n)) (nat_le d.limit n) IsOver AtLimit (step_answer_by u (next d w u)) (nothing_stops d w n u what over h e) full
 
-pub answers_made : (d : DeckView) (w : World) (n u : ℕ) (what : What) → w.over ≡ false → u ≤ length d.units → next d w u ≡ Some what → nat_le d.limit n ≡ false → Made (entry_of u what) ≡ stepped_in d w n u
+pub answers_made : (d : DeckView) (w : World) (n u : ℕ) (what : What) → w.over ≡ false → u ≤ length d.units → next d w u ≡ Some what → nat_le d.limit n ≡ false → Made (entry_of u what) ≡ step_answer_in d w n u
 answers_made d w n u what over h e room =
-    ap (made_by u) (sym e) ∙ last_of (stops (end_in d w n)) (nat_le d.limit n) IsOver AtLimit (made_by u (next d w u)) (nothing_stops d w n u what over h e) room
+    ap (step_answer_by u) (sym e) ∙ last_of (stops (end_in d w n)) (nat_le d.limit n) IsOver AtLimit (step_answer_by u (next d w u)) (nothing_stops d w n u what over h e) room

@@ -1,18 +1,18 @@
 -- A system's control blocks stand for its trace: at the start, and after one more entry.
 use Rattle.std.proofs.Common.{◌≡◌, ℕ, ◌<◌, ◌≤◌, List, [], ◌∷◌, ◌++◌, length, sym, ap, subst, ◌∙◌, arith}
 use Rattle.std.specs.Prelude.{IsTrue}
-use Rattle.rtm_items.specs.View.{DeckView}
-use Rattle.rtm_items.specs.WellFormed.{is_well_formed}
-use Rattle.rtm_items.proofs.FormFacts.{Limits, limits}
+use Rattle.rtm_deck_items.specs.View.{DeckView}
+use Rattle.rtm_deck_items.specs.WellFormed.{is_well_formed}
+use Rattle.rtm_deck_items.proofs.FormFacts.{Limits, limits}
 use Rattle.rtm_model.specs.declared.entry.Entry.{Entry}
 use Rattle.rtm_model.specs.Births.{advance, world}
 use Rattle.rtm_model.specs.Legal.{Legal, MayFollow}
 use Rattle.rtm_model.specs.Soundness.{IsSound}
 use Rattle.rtm_model.specs.World.{World, start}
-use Rattle.rtm_sound.proofs.Histories.{Legal-append, Legal-nil, world-append, world-nil, world_sound}
-use Rattle.rtm_machine.specs.Follows.{Follows}
-use Rattle.rtm_machine.specs.Shape.{IsShaped}
-use Rattle.rtm_machine.proofs.Applying.{own_there}
+use Rattle.rtm_law_sound.proofs.Histories.{Legal-append, Legal-nil, world-append, world-nil, world_sound}
+use Rattle.rtm_system_world.specs.Follows.{Follows}
+use Rattle.rtm_system_world.specs.Shape.{IsShaped}
+use Rattle.rtm_system_world.proofs.Applying.{own_there}
 use Rattle.rtm_system.specs.Turned.{IsNext}
 use Rattle.rtm_system.specs.View.{StandsFor}
 

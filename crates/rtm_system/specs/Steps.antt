@@ -1,6 +1,6 @@
 -- What a system answers to a step, and to a command that is to arrive (this profile).
 use Rattle.std.specs.Prelude.{Bool, List, None, Option, Some, [], false, if◌then◌else◌, is_some, length, nat_le, true, ℕ, ◌||◌, ◌∷◌}
-use Rattle.rtm_items.specs.View.{DeckView}
+use Rattle.rtm_deck_items.specs.View.{DeckView}
 use Rattle.rtm_model.specs.declared.entry.End.{End}
 use Rattle.rtm_model.specs.declared.entry.End.TheVariants.{Ended, Limit, Stalled}
 use Rattle.rtm_model.specs.declared.entry.Entry.{Entry}
@@ -25,18 +25,18 @@ stops (Some Limit) = false
 stops None = false
 
 -- the unit's next entry is made
-abbrev pub made_by : ℕ → Option What → Stepped
-made_by u None = NotReady
-made_by u (Some what) = Made (entry_of u what)
+abbrev pub step_answer_by : ℕ → Option What → Stepped
+step_answer_by u None = NotReady
+step_answer_by u (Some what) = Made (entry_of u what)
 
 -- the answer after n entries, after which w lives
-abbrev pub stepped_in : DeckView → World → ℕ → ℕ → Stepped
-stepped_in d w n u =
-    if stops (end_in d w n) then IsOver else if nat_le d.limit n then AtLimit else made_by u (next d w u)
+abbrev pub step_answer_in : DeckView → World → ℕ → ℕ → Stepped
+step_answer_in d w n u =
+    if stops (end_in d w n) then IsOver else if nat_le d.limit n then AtLimit else step_answer_by u (next d w u)
 
 -- the answer to a step of the unit after the trace
-abbrev pub stepped : DeckView → List Entry → ℕ → Stepped
-stepped d trace u = stepped_in d (world d trace) (length trace) u
+abbrev pub step_answer : DeckView → List Entry → ℕ → Stepped
+step_answer d trace u = step_answer_in d (world d trace) (length trace) u
 
 -- the entries that the step adds
 abbrev pub entries_of : Stepped → List Entry
@@ -55,13 +55,13 @@ abbrev pub arrives : Option Entry → Arrived
 arrives None = arrivals.NotYet
 arrives (Some e) = arrivals.Made e
 
-abbrev pub arrived_in : DeckView → World → ℕ → ℕ → Arrived
-arrived_in d w n cmd =
+abbrev pub arrival_answer_in : DeckView → World → ℕ → ℕ → Arrived
+arrival_answer_in d w n cmd =
     if is_gone d w cmd then arrivals.Gone else if nat_le d.limit n then arrivals.NotYet else arrives (arrival d w n cmd)
 
 -- the answer to the command of that number after the trace
-abbrev pub arrived : DeckView → List Entry → ℕ → Arrived
-arrived d trace cmd = arrived_in d (world d trace) (length trace) cmd
+abbrev pub arrival_answer : DeckView → List Entry → ℕ → Arrived
+arrival_answer d trace cmd = arrival_answer_in d (world d trace) (length trace) cmd
 
 abbrev pub entries_arrived : Arrived → List Entry
 entries_arrived (arrivals.Made e) = e ∷ []

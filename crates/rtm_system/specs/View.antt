@@ -1,6 +1,6 @@
 -- What contracts see of a system, and what it keeps.
 use Rattle.std.specs.Prelude.{List, length, ℕ, ◌≡◌, ◌≤◌}
-use Rattle.rtm_items.specs.View.{DeckView}
+use Rattle.rtm_deck_items.specs.View.{DeckView}
 use Rattle.rtm_model.specs.declared.entry.Entry.{Entry}
 use Rattle.rtm_model.specs.Births.{world}
 use Rattle.rtm_model.specs.Legal.{Legal}

@@ -1,3 +1,5 @@
+//! What an arrival answers.
+
 use rtm_model::Entry;
 
 /// What has become of a command that was to arrive.

@@ -12,7 +12,7 @@ use rtm_board::Notes;
 use rtm_model::{Entry, What};
 
 impl System {
-    /// Makes the arrival that is to stand next: its command's note is taken out, shown and put back.
+    // Makes the arrival that is to stand next: its command's note is taken out, shown and put back.
     #[tactic(auto, using(crate::proofs::Shown::kept))]
     fn show(&mut self, notes: &mut Notes, cmd: u8, entry: Entry)
         requires next { IsNext self.old.deck self.old.trace entry }

@@ -1,3 +1,5 @@
+//! What a step answers.
+
 use rtm_model::Entry;
 
 /// What a step has made.

@@ -2,25 +2,24 @@
 
 ghost use Rattle.std.specs.Prelude.{◌≡◌, ◌≤◌, ◌<◌, ◌++◌, ◌∷◌, ◌+◌, [], length, nat_le, true, IsTrue, IfOk, None, Some};
 ghost use Rattle.std.specs.List.{AllByRecursion};
-ghost use Rattle.rtm_items.specs.WellFormed.{is_well_formed};
+ghost use Rattle.rtm_deck_items.specs.WellFormed.{is_well_formed};
 ghost use Rattle.rtm_model.specs.declared.entry.Entry.{Entry};
 ghost use Rattle.rtm_model.specs.Arrivals.{arrival, first_arrival, goes_on, may_arrive, target_of};
 ghost use Rattle.rtm_model.specs.Births.{world};
 ghost use Rattle.rtm_model.specs.Fits.{Fits};
 ghost use Rattle.rtm_model.specs.Legal.{Legal, MayFollow, end_of};
 ghost use Rattle.rtm_model.specs.NextEntry.{next};
-ghost use Rattle.rtm_model.specs.World.{World};
-ghost use Rattle.rtm_machine.specs.Shape.{IsShaped};
-ghost use Rattle.rtm_system.specs.Turned.{IsNext, arriving};
-ghost use Rattle.rtm_system.specs.Steps.{arrived, entries_arrived, entries_of, is_gone, stepped, stops};
+ghost use Rattle.rtm_system_world.specs.Shape.{IsShaped};
+ghost use Rattle.rtm_system.specs.Turned.{IsNext, arriving_command};
+ghost use Rattle.rtm_system.specs.Steps.{arrival_answer, entries_arrived, entries_of, is_gone, step_answer, stops};
 
 use crate::arrived::Arrived;
 use crate::stepped::Stepped;
 use rtm_board::Note;
 use rtm_codes::NoMemory;
-use rtm_items::Deck;
-use rtm_machine::Machine;
+use rtm_deck_items::Deck;
 use rtm_model::{End, Entry, Fate, What};
+use rtm_system_world::World;
 use std::alloc::Global;
 use std::marker::Model;
 
@@ -28,7 +27,7 @@ use std::marker::Model;
 #[derive(Drop)]
 pub struct System {
     deck: Deck,
-    machine: Machine,
+    world: World,
     trace: Vec<Entry>,
     /// The unit that went on last: it is asked first whether anybody does.
     last: u16,
@@ -42,7 +41,7 @@ impl Model for System {
 
     ghost view = { λ a. record { deck = a.deck; trace = a.trace.items } };
 
-    ghost invariant = { λ a. StandsFor a.deck a.machine a.trace.items (vec_capacity a.trace) a.last };
+    ghost invariant = { λ a. StandsFor a.deck a.world a.trace.items (vec_capacity a.trace) a.last };
 }
 
 impl System {
@@ -50,11 +49,11 @@ impl System {
     pub fn new(alloc: Global, deck: Deck) -> Result<System, NoMemory>
         ensures { IfOk result (λ system. (system.deck ≡ deck) × (system.trace ≡ [])) }
     {
-        let machine = Machine::new(alloc, &deck)?;
+        let world = World::new(alloc, &deck)?;
         let trace = Vec::with_capacity(alloc, deck.entry_limit() as usize)?;
         Ok(System {
             deck,
-            machine,
+            world,
             trace,
             last: 0,
         })
@@ -77,7 +76,7 @@ impl System {
         &self.trace
     }
 
-    /// A law of the type, and no work: its world has a unit for each of the deck's.
+    // A law of the type, and no work: its world has a unit for each of the deck's.
     fn is_shaped(&self)
         ensures { IsShaped self.now.deck (world self.now.deck self.now.trace) }
     {
@@ -88,7 +87,7 @@ impl System {
         ensures { result ≡ next self.now.deck (world self.now.deck self.now.trace) unit }
     {
         self.is_shaped();
-        self.machine.next(&self.deck, unit)
+        self.world.next(&self.deck, unit)
     }
 
     /// Whether it is seen at a glance that the unit has no next entry.
@@ -96,30 +95,30 @@ impl System {
     pub(crate) fn is_idle(&self, unit: u16) -> bool
         ensures { result ≡ true → next self.now.deck (world self.now.deck self.now.trace) unit ≡ None }
     {
-        self.machine.is_idle(&self.deck, unit)
+        self.world.is_idle(&self.deck, unit)
     }
 
-    /// The unit that went on last.
-    fn last(&self) -> u16
+    // The unit that went on last.
+    fn last_unit(&self) -> u16
         ensures { result ≤ length self.now.deck.units }
     {
         self.last
     }
 
-    /// Whether some unit has a next entry. The one that went on last is asked first, and all only where that one has none.
+    // Whether some unit has a next entry. The one that went on last is asked first, and all only where that one has none.
     #[tactic(auto, using(crate::proofs::Going::goes_on_by))]
     fn goes_on(&self) -> bool
         ensures { result ≡ goes_on self.now.deck (world self.now.deck self.now.trace) }
     {
         self.is_shaped();
-        self.next(self.last()).is_some() || self.machine.goes_on(&self.deck)
+        self.next(self.last_unit()).is_some() || self.world.goes_on(&self.deck)
     }
 
     /// How the history ends, or none where it goes on.
     pub fn end(&self) -> Option<End>
         ensures { result ≡ end_of self.now.deck self.now.trace }
     {
-        if self.machine.is_over() {
+        if self.world.is_over() {
             return Some(End::Ended);
         }
         let quiet = !self.goes_on();
@@ -152,7 +151,7 @@ impl System {
         ensures { result ≡ first_arrival self.now.deck (world self.now.deck self.now.trace) (length self.now.trace) quiet }
     {
         self.deck.keeps_its_form();
-        self.machine
+        self.world
             .first_arrival(&self.deck, self.trace.len(), quiet)
     }
 
@@ -161,10 +160,10 @@ impl System {
         ensures { result ≡ may_arrive self.now.deck (world self.now.deck self.now.trace) (length self.now.trace) cmd }
     {
         self.is_shaped();
-        self.machine.may_arrive(&self.deck, self.trace.len(), cmd)
+        self.world.may_arrive(&self.deck, self.trace.len(), cmd)
     }
 
-    /// Adds an entry that may follow. Whose turn it was last is told for the next question who goes on.
+    // Adds an entry that may follow. Whose turn it was last is told for the next question who goes on.
     fn add(&mut self, entry: Entry, last: u16)
         requires room { length self.old.trace < self.old.deck.limit }
         requires follows { MayFollow self.old.deck (world self.old.deck self.old.trace) (length self.old.trace) entry entry.what }
@@ -174,7 +173,7 @@ impl System {
     {
         self.deck.keeps_its_form();
         let index = self.trace.len() as u32;
-        self.machine.apply(&self.deck, index, &entry);
+        self.world.apply(&self.deck, index, &entry);
         self.trace.push_reserved(entry);
         self.last = last;
     }
@@ -189,7 +188,7 @@ impl System {
     /// Adds an entry that may stand next. A command arrives by its note alone: by `arrive`, or under `make_next`.
     pub fn append(&mut self, entry: Entry)
         requires next { IsNext self.old.deck self.old.trace entry }
-        requires no_arrival { arriving entry.what ≡ None }
+        requires no_arrival { arriving_command entry.what ≡ None }
         ensures trace { self.new.trace ≡ self.old.trace ++ entry ∷ [] }
         ensures deck { self.new.deck ≡ self.old.deck }
     {
@@ -201,7 +200,7 @@ impl System {
     #[tactic(auto, using(crate::proofs::Going::nothing_stops))]
     pub fn step(&mut self, unit: u16) -> Stepped
         requires { unit ≤ length self.old.deck.units }
-        ensures answer { result ≡ stepped self.old.deck self.old.trace unit }
+        ensures answer { result ≡ step_answer self.old.deck self.old.trace unit }
         ensures trace { self.new.trace ≡ self.old.trace ++ entries_of result }
         ensures deck { self.new.deck ≡ self.old.deck }
     {
@@ -220,12 +219,12 @@ impl System {
         }
     }
 
-    /// Makes that entry, which is the unit's next one, below the limit and where the run isn't over.
+    // Makes that entry, which is the unit's next one, below the limit and where the run isn't over.
     #[tactic(auto, using(crate::proofs::Going::nothing_stops, crate::proofs::Going::over_stops, crate::proofs::Following::next_follows))]
     fn make(&mut self, unit: u16, what: What) -> Stepped
         requires unit { unit ≤ length self.old.deck.units }
         requires next { next self.old.deck (world self.old.deck self.old.trace) unit ≡ Some what }
-        ensures answer { result ≡ stepped self.old.deck self.old.trace unit }
+        ensures answer { result ≡ step_answer self.old.deck self.old.trace unit }
         ensures trace { self.new.trace ≡ self.old.trace ++ entries_of result }
         ensures deck { self.new.deck ≡ self.old.deck }
     {
@@ -242,9 +241,9 @@ impl System {
 
     /// Whether the address space has ended.
     pub(crate) fn has_ended(&self) -> bool
-        ensures { result ≡ World.over (world self.now.deck self.now.trace) }
+        ensures { result ≡ (world self.now.deck self.now.trace).over }
     {
-        self.machine.is_over()
+        self.world.is_over()
     }
 
     /// The target of the command of that number.
@@ -257,16 +256,16 @@ impl System {
         }
     }
 
-    /// Whether the command never arrives any more.
+    // Whether the command never arrives any more.
     fn is_gone(&self, cmd: u8) -> bool
         ensures { result ≡ is_gone self.now.deck (world self.now.deck self.now.trace) cmd }
     {
-        self.machine.is_gone(self.target_of(cmd))
+        self.world.is_gone(self.target_of(cmd))
     }
 
     /// Makes the entry of a command's arrival, where it may arrive. The note is only looked at, and may be shown again.
     pub fn arrive(&mut self, note: &Note) -> Arrived
-        ensures answer { result ≡ arrived self.old.deck self.old.trace note.now }
+        ensures answer { result ≡ arrival_answer self.old.deck self.old.trace note.now }
         ensures trace { self.new.trace ≡ self.old.trace ++ entries_arrived result }
         ensures deck { self.new.deck ≡ self.old.deck }
     {
@@ -283,7 +282,7 @@ impl System {
                 let unit = self.target_of(cmd);
                 let what = What::Arrive { cmd, fate };
                 let entry = Entry { unit, what };
-                let last = self.last();
+                let last = self.last_unit();
                 self.add(entry, last);
                 Arrived::Made(entry)
             }

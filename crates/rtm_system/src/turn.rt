@@ -8,13 +8,13 @@ ghost use Rattle.rtm_model.specs.Legal.{MayFollow};
 ghost use Rattle.rtm_model.specs.NextEntry.{next};
 ghost use Rattle.rtm_model.specs.Turns.{turn, turn_after};
 ghost use Rattle.rtm_model.specs.World.{World};
-ghost use Rattle.rtm_system.specs.Turned.{IsNext, arriving, turn_of, wanted};
+ghost use Rattle.rtm_system.specs.Turned.{IsNext, arriving_command, turn_of, wanted_entry};
 
 use crate::same::{is_entry, is_next};
 use crate::system::System;
 use rtm_model::{Entry, What};
 
-/// The unit after `unit`, round past the master, whose number is `count`.
+// The unit after `unit`, round past the master, whose number is `count`.
 fn unit_after(count: u16, unit: u16) -> u16
     requires { unit ≤ count }
     ensures { result ≡ (if unit == count then 0 else unit + 1) }
@@ -40,9 +40,9 @@ fn first_of(arrival: Option<Entry>, made: Option<Entry>) -> Option<Entry>
     }
 }
 
-/// The command whose arrival the entry is.
-fn arriving(what: What) -> Option<u8>
-    ensures { result ≡ arriving what }
+// The command whose arrival the entry is.
+fn arriving_command(what: What) -> Option<u8>
+    ensures { result ≡ arriving_command what }
 {
     match what {
         What::Arrive { cmd, .. } => Some(cmd),
@@ -51,7 +51,7 @@ fn arriving(what: What) -> Option<u8>
 }
 
 impl System {
-    /// The next entry of the unit of that number. Most units wait, and are passed over at a glance.
+    // The next entry of the unit of that number. Most units wait, and are passed over at a glance.
     #[inline(always)]
     fn next_if_any(&self, unit: u16) -> Option<What>
         ensures { result ≡ next self.now.deck (world self.now.deck self.now.trace) unit }
@@ -63,7 +63,7 @@ impl System {
         }
     }
 
-    /// The entry of the first unit that has one, from `first` on and round past the master.
+    // The entry of the first unit that has one, from `first` on and round past the master.
     #[tactic(auto, using(crate::proofs::Rounds::round_begins, crate::proofs::Rounds::round_skips, crate::proofs::Rounds::round_finds, crate::proofs::Rounds::round_ends))]
     fn round(&self, first: u16) -> Option<Entry>
         requires { first ≤ length self.now.deck.units }
@@ -80,7 +80,7 @@ impl System {
         None
     }
 
-    /// Whose turn it is, where the address space hasn't ended and there is room.
+    // Whose turn it is, where the address space hasn't ended and there is room.
     #[tactic(auto, using(crate::proofs::Rounds::turn_is))]
     fn open_turn(&self, first: u16) -> Option<Entry>
         requires unit { first ≤ length self.now.deck.units }
@@ -132,7 +132,7 @@ impl System {
         }
     }
 
-    /// The arrival of the command of that number, where it may arrive.
+    // The arrival of the command of that number, where it may arrive.
     fn arrival(&self, cmd: u8) -> Option<Entry>
         ensures { result ≡ arrival self.now.deck (world self.now.deck self.now.trace) (length self.now.trace) cmd }
     {
@@ -145,12 +145,12 @@ impl System {
         }
     }
 
-    /// Whether the entry is the one that its unit, or the command that it lets arrive, makes now. The limit isn't asked.
+    // Whether the entry is the one that its unit, or the command that it lets arrive, makes now. The limit isn't asked.
     #[tactic(auto, using(crate::proofs::Firsts::arrival_may, crate::proofs::Firsts::next_may))]
     fn may_stand(&self, entry: &Entry) -> bool
         ensures { IsTrue result ↔ MayFollow self.now.deck (world self.now.deck self.now.trace) (length self.now.trace) entry.now entry.now.what }
     {
-        match arriving(entry.what) {
+        match arriving_command(entry.what) {
             Some(cmd) => is_entry(self.arrival(cmd), *entry),
             None => is_next(self.next(entry.unit), entry.what),
         }
@@ -165,8 +165,8 @@ impl System {
 
     /// The one entry that the unit of that number may make next: none where it has none, where there is no such unit, and
     /// where the history has as many entries as it may have.
-    pub fn wanted(&self, unit: u16) -> Option<Entry>
-        ensures { result ≡ wanted self.now.deck self.now.trace unit }
+    pub fn wanted_entry(&self, unit: u16) -> Option<Entry>
+        ensures { result ≡ wanted_entry self.now.deck self.now.trace unit }
     {
         if self.is_at_limit() {
             return None;

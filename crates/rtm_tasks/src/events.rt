@@ -1,3 +1,5 @@
+//! The events that are posted.
+
 ghost use Rattle.std.specs.Prelude.{◌≡◌, false, not, [], replicate, IfOk};
 ghost use Rattle.rtm_model.specs.Tasks.{is_posted, with_event};
 
@@ -5,7 +7,7 @@ use rtm_codes::NoMemory;
 use std::alloc::Global;
 use std::marker::Model;
 
-/// So many events there are (this profile).
+// So many events there are (this profile).
 const EVENTS: usize = 256;
 
 /// The events that are posted. A contract sees the one first that was posted last.
@@ -28,7 +30,7 @@ impl Model for Events {
     ghost invariant = { λ a. AreEvents (reverse a.list.items) × (256 ≤ vec_capacity a.list) × Tells a.posted.items (reverse a.list.items) };
 }
 
-fn none_posted(alloc: Global) -> Result<Vec<bool>, NoMemory>
+fn unposted_events(alloc: Global) -> Result<Vec<bool>, NoMemory>
     ensures { IfOk result (λ table. table.items ≡ replicate 256 false) }
 {
     Ok(vec![in alloc; false; EVENTS]?)
@@ -41,7 +43,7 @@ impl Events {
     {
         Ok(Events {
             list: Vec::with_capacity(alloc, EVENTS)?,
-            posted: none_posted(alloc)?,
+            posted: unposted_events(alloc)?,
         })
     }
 

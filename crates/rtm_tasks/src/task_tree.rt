@@ -1,3 +1,5 @@
+//! Which units live, who attached whom, and which events are posted.
+
 ghost use Rattle.std.specs.Prelude.{◌≡◌, ◌+◌, ◌-◌, ◌^◌, ◌<◌, ◌≤◌, ◌↔◌, ◌==◌, ℕ, not, false, true, length, map, position, List, [], Some, None, IfOk, IfSome, IsErr, OnOk, OnErr, slice_set, slice_index, slice_index_or, vec_len};
 ghost use Rattle.std.specs.List.{count_by};
 ghost use Rattle.rtm_model.specs.Tasks.{Life, Dormant, Lives, is_dormant, is_living, has_ended, mother_of, living_mother, is_number, is_subtask_of, life_of, has_subtask, with_birth, ended_life, with_end, lives_at_start, is_posted, with_event, tree_at_start};
@@ -7,7 +9,7 @@ use crate::events::Events;
 use crate::not_dormant::NotDormant;
 use crate::unit_life::UnitLife;
 use rtm_codes::NoMemory;
-use rtm_items::{Deck, Unit};
+use rtm_deck_items::{Deck, Unit};
 use std::alloc::Global;
 use std::marker::Model;
 
@@ -39,7 +41,12 @@ impl Model for TaskTree {
 fn dormant_lives(alloc: Global, units: &[Unit]) -> Result<Vec<UnitLife>, NoMemory>
     ensures { IfOk result (λ lives. lives.items ≡ map (λ unit. Dormant) units.now) }
 {
-    Ok(units.iter().map(|_| UnitLife::dormant()).collect(alloc)?)
+    Ok(
+        units
+            .iter()
+            .map(|_| UnitLife::before_birth())
+            .collect(alloc)?,
+    )
 }
 
 fn no_subtasks(alloc: Global, units: &[Unit]) -> Result<Vec<usize>, NoMemory>
@@ -101,7 +108,7 @@ fn living_mother(lives: &[UnitLife], unit: u16) -> Option<u16>
     }
 }
 
-/// The number of the first unit that lives.
+// The number of the first unit that lives.
 fn first_living(lives: &[UnitLife]) -> Option<usize>
     ensures which { result ≡ position is_living lives.now }
     ensures within { IfSome result (λ unit. unit < length lives.now) }
@@ -122,8 +129,8 @@ fn ended_life(lives: &[UnitLife], unit: u16) -> UnitLife
     ensures { result ≡ ended_life (life_of unit lives.now) }
 {
     match lives.get(unit as usize) {
-        Some(life) => life.ended(),
-        None => UnitLife::dormant(),
+        Some(life) => life.after_end(),
+        None => UnitLife::before_birth(),
     }
 }
 
@@ -136,7 +143,7 @@ fn subtask_count(subtasks: &[usize], unit: u16) -> usize
     }
 }
 
-/// One living subtask more.
+// One living subtask more.
 fn add_subtask(subtasks: &mut Vec<usize>, mother: u16)
     requires in_range { mother < length subtasks.old.items }
     requires fits { slice_index subtasks.old.items mother + 1 < 2 ^ 64 }
@@ -146,7 +153,7 @@ fn add_subtask(subtasks: &mut Vec<usize>, mother: u16)
     subtasks[mother as usize] = count + 1;
 }
 
-/// One living subtask less.
+// One living subtask less.
 fn drop_subtask(subtasks: &mut Vec<usize>, mother: u16)
     requires { 0 < slice_index subtasks.old.items mother }
     ensures { subtasks.new.items ≡ slice_set subtasks.old.items mother (slice_index subtasks.old.items mother - 1) }
@@ -155,7 +162,7 @@ fn drop_subtask(subtasks: &mut Vec<usize>, mother: u16)
     subtasks[mother as usize] = count - 1;
 }
 
-/// A dormant unit is born of that mother.
+// A dormant unit is born of that mother.
 #[tactic(auto, using(crate::proofs::Counting::room_of, crate::proofs::Counting::born_of))]
 fn attach(lives: &mut Vec<UnitLife>, subtasks: &mut Vec<usize>, mother: u16, unit: u16)
     requires dormant { is_dormant (life_of unit lives.old.items) ≡ true }
@@ -168,11 +175,11 @@ fn attach(lives: &mut Vec<UnitLife>, subtasks: &mut Vec<usize>, mother: u16, uni
 {
     if (unit as usize) < lives.len() {
         add_subtask(subtasks, mother);
-        set_life(lives, unit as usize, UnitLife::born(Some(mother)));
+        set_life(lives, unit as usize, UnitLife::at_birth(Some(mother)));
     }
 }
 
-/// A dormant unit is born of no mother.
+// A dormant unit is born of no mother.
 #[tactic(auto, using(crate::proofs::Counting::born_of_none))]
 fn schedule(lives: &mut Vec<UnitLife>, subtasks: &[usize], unit: u16)
     requires dormant { is_dormant (life_of unit lives.old.items) ≡ true }
@@ -181,10 +188,10 @@ fn schedule(lives: &mut Vec<UnitLife>, subtasks: &[usize], unit: u16)
     ensures counts { AreCounts subtasks.now lives.new.items }
     ensures lives_len { length lives.new.items ≡ length lives.old.items }
 {
-    set_life(lives, unit as usize, UnitLife::born(None));
+    set_life(lives, unit as usize, UnitLife::at_birth(None));
 }
 
-/// A living unit ends, and its mother has one living subtask less.
+// A living unit ends, and its mother has one living subtask less.
 #[tactic(auto, using(crate::proofs::Counting::one_there, crate::proofs::Counting::ended_of, crate::proofs::Counting::ended_of_none))]
 fn end(lives: &mut Vec<UnitLife>, subtasks: &mut Vec<usize>, unit: u16)
     requires counts { AreCounts subtasks.old.items lives.old.items }
@@ -214,7 +221,7 @@ impl TaskTree {
         ensures { IfOk result (λ tree. tree ≡ record { lives = lives_at_start units.now first; events = [] }) }
     {
         let mut lives = dormant_lives(alloc, units)?;
-        set_life(&mut lives, first as usize, UnitLife::born(None));
+        set_life(&mut lives, first as usize, UnitLife::at_birth(None));
         Ok(TaskTree {
             lives,
             subtasks: no_subtasks(alloc, units)?,
@@ -273,7 +280,7 @@ impl TaskTree {
     }
 
     /// Whether the unit of the number `mother` attached the unit, which still lives or does not.
-    pub fn attached(&self, mother: u16, unit: u16) -> bool
+    pub fn has_attached(&self, mother: u16, unit: u16) -> bool
         ensures { result ≡ is_number mother (mother_of (life_of unit self.now.lives)) }
     {
         is_number(mother, mother_of(&self.lives, unit))
@@ -311,8 +318,8 @@ impl TaskTree {
         has_ended(&self.lives, unit)
     }
 
-    /// Whether the unit was never born, so that ATTACHX or SCHEDULE may bear it.
-    pub fn dormant(&self, unit: u16) -> bool
+    /// Whether the unit was never born, so that ATTACHX or SCHEDULE may make it.
+    pub fn is_dormant(&self, unit: u16) -> bool
         ensures { result ≡ is_dormant (life_of unit self.now.lives) }
     {
         is_dormant(&self.lives, unit)

@@ -1,5 +1,7 @@
+//! Units that are born and end, call by call.
+
 use crate::{NotDormant, TaskTree};
-use rtm_items::{Name, Unit, UnitKind};
+use rtm_deck_items::{Name, Unit, UnitKind};
 use std::test::Fail;
 
 fn is_send<T: Send>() {}
@@ -18,7 +20,7 @@ fn unit(kind: UnitKind) -> Unit {
     }
 }
 
-/// An SRB, the job step task, two tasks and another SRB.
+// An SRB, the job step task, two tasks and another SRB.
 fn units() -> [Unit; 5] {
     [
         unit(UnitKind::Srb),
@@ -37,7 +39,7 @@ enum Step {
     End(u16),
 }
 
-/// Does the step, and tells whether a unit was born or ended.
+// Does the step, and tells whether a unit was born or ended.
 fn make_step(tree: &mut TaskTree, step: Step) -> bool {
     match step {
         Step::Start => true,
@@ -51,7 +53,7 @@ fn make_step(tree: &mut TaskTree, step: Step) -> bool {
     }
 }
 
-/// How each unit stands: `.` dormant, `L` living, `E` ended; `l` and `e` the same of one that has living subtasks.
+// How each unit stands: `.` dormant, `L` living, `E` ended; `l` and `e` the same of one that has living subtasks.
 fn stands(tree: &TaskTree, unit: u16) -> u8 {
     let letter = if tree.living(unit) {
         b'L'
@@ -67,7 +69,7 @@ fn stands(tree: &TaskTree, unit: u16) -> u8 {
     }
 }
 
-/// The first unit that lives, of a tree of few units.
+// The first unit that lives, of a tree of few units.
 fn first_living(tree: &TaskTree) -> Option<u16> {
     if tree.unit_count() > 5 {
         return None;
@@ -114,13 +116,13 @@ fn units_are_born_once(rt: HostRuntime) -> Result<(), Fail> {
             );
         }
     }
-    assert!(rt; tree.attached(3, 2) && !tree.attached(2, 3) && !tree.attached(0, 1));
+    assert!(rt; tree.has_attached(3, 2) && !tree.has_attached(2, 3) && !tree.has_attached(0, 1));
     // Who attached whom stays for good.
     let mothers = [None, None, Some(3), Some(1), None, None];
     for unit in 0..6 {
         assert_eq!(rt; tree.mother(unit), mothers[unit as usize]);
     }
-    assert!(rt; tree.dormant(5));
+    assert!(rt; tree.is_dormant(5));
     assert_eq!(rt; tree.schedule(0), Err(NotDormant));
     Ok(())
 }

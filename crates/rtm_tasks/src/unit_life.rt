@@ -1,9 +1,11 @@
+//! The life of one unit.
+
 ghost use Rattle.std.specs.Prelude.{◌≡◌};
 ghost use Rattle.rtm_model.specs.Tasks.{Dormant, Lives, is_dormant, is_living, has_ended, mother_of, living_mother, ended_life};
 
 use std::marker::Model;
 
-/// Where a unit stands in its life; `mother` is the number of the task that attached it.
+// Where a unit stands in its life; `mother` is the number of the task that attached it.
 #[derive(Clone, Copy)]
 enum Stage {
     Unborn,
@@ -27,7 +29,7 @@ impl Model for UnitLife {
 }
 
 impl UnitLife {
-    pub(crate) fn dormant() -> UnitLife
+    pub(crate) fn before_birth() -> UnitLife
         ensures { result ≡ Dormant }
     {
         UnitLife {
@@ -35,7 +37,7 @@ impl UnitLife {
         }
     }
 
-    pub(crate) fn born(mother: Option<u16>) -> UnitLife
+    pub(crate) fn at_birth(mother: Option<u16>) -> UnitLife
         ensures { result ≡ Lives mother }
     {
         UnitLife {
@@ -81,7 +83,7 @@ impl UnitLife {
     }
 
     /// The life after its end, if it is one.
-    pub(crate) fn ended(&self) -> UnitLife
+    pub(crate) fn after_end(&self) -> UnitLife
         ensures { result ≡ ended_life self.now }
     {
         let stage = match self.stage {

@@ -3,18 +3,18 @@ use Rattle.std.proofs.Common.{◌≡◌, ℕ, ◌<◌, ◌≤◌, List, length, 
 use Rattle.std.specs.Prelude.{◌^◌, IsTrue}
 use Rattle.std.proofs.lemmas.Bool.{cases_lt}
 use Rattle.rtm_cards.specs.Lines.{lines_of}
-use Rattle.rtm_items.specs.View.{DeckView}
-use Rattle.rtm_items.specs.Spelling.{DeckText}
-use Rattle.rtm_items.specs.WellFormed.{is_well_formed}
-use Rattle.rtm_spelling.proofs.NotBoth.{never_both}
-use Rattle.rtm_spelling.proofs.OneDeck.{one_deck}
-use Rattle.rtm_judge.proofs.Firsts.{legal_has_none, one_end}
-use Rattle.rtm_load.specs.Deck.{load_deck}
+use Rattle.rtm_deck_items.specs.View.{DeckView}
+use Rattle.rtm_deck_items.specs.Spelling.{DeckText}
+use Rattle.rtm_deck_items.specs.WellFormed.{is_well_formed}
+use Rattle.rtm_deck_spelling.proofs.NotBoth.{never_both}
+use Rattle.rtm_deck_spelling.proofs.OneDeck.{one_deck}
+use Rattle.rtm_trace_judge.proofs.Firsts.{legal_has_none, one_end}
+use Rattle.rtm_deck_load.specs.Deck.{load_deck}
 use Rattle.rtm_model.specs.declared.entry.End.{End}
 use Rattle.rtm_model.specs.declared.entry.Entry.{Entry}
 use Rattle.rtm_model.specs.Legal.{end_of}
 use Rattle.rtm_model.specs.Turns.{seq}
-use Rattle.rtm_split.specs.Split.{front_in, trace_part}
+use Rattle.rtm_deck_split.specs.Split.{front_in, trace_part}
 use Rattle.rtm_trace.specs.Lines.{IsTraceOf}
 use Rattle.rtm_trace.specs.View.{TraceView}
 use Rattle.rtm_trace.proofs.Replies.{not_both}
@@ -140,6 +140,6 @@ is_complete request call s h = λ source sink memory. elim h [
   | inl a ↦ subst (λ (x : Status). IsDueStatus request call.left x) (sym a.its_status) (due request call.left a.answer a.due)
   | inr h ↦ elim h [
     | inl w ↦ absurd (sink w.sink)
-    | inr h ↦ elim h [ | inl r ↦ absurd (source r.source) | inr m ↦ absurd (memory m.is_memory) ]
+    | inr h ↦ elim h [ inl r ↦ absurd (source r.source) | inr m ↦ absurd (memory m.is_memory) ]
   ]
 ]

@@ -3,7 +3,7 @@ use Rattle.std.proofs.Common.{◌≡◌, ℕ, ◌≤◌, Bool, true, false, List
 use Rattle.std.specs.Prelude.{IfErr, IfOk, IfSome}
 use Rattle.rtm_io.specs.Faults.{HasRisen}
 use Rattle.rtm_io.specs.Stream.{TakesAtMost}
-use Rattle.rtm_items.specs.View.{DeckView}
+use Rattle.rtm_deck_items.specs.View.{DeckView}
 use Rattle.rtm_model.specs.declared.entry.End.{End}
 use Rattle.rtm_model.specs.declared.entry.End.TheVariants.{Ended, Limit, Stalled}
 use Rattle.rtm_top.specs.declared.request.Request.{Request}
@@ -40,14 +40,14 @@ of_trace : (d : DeckView) (bytes : List ℕ) (a : AnswerView) → IsOfTrace d by
 unfolding is_of_an_answer
 of_trace d bytes a h = elim h [
   | inl n ↦ by a _ n.is refl
-  | inr j ↦ elim j.judgement [ | inl i ↦ by a _ i.is refl | inr h ↦ elim h [ | inl w ↦ by a _ w.is refl | inr v ↦ by a _ v.is refl ] ]
+  | inr j ↦ elim j.judgement [ inl i ↦ by a _ i.is refl | inr h ↦ elim h [ inl w ↦ by a _ w.is refl | inr v ↦ by a _ v.is refl ] ]
 ]
 
 answer_is : (request : Request) (bytes : List ℕ) (a : AnswerView) → IsAnswer request bytes a → is_of_an_answer a.status ≡ true
 unfolding is_of_an_answer
-answer_is requests.Scan bytes a h = elim h [ | inl r ↦ by a _ r.is refl | inr c ↦ by a _ c.is refl ]
-answer_is requests.Seq bytes a h = elim h [ | inl r ↦ by a _ r.is refl | inr c ↦ by a _ c.run.is (end_is c.run.end) ]
-answer_is requests.Verify bytes a h = elim h [ | inl r ↦ by a _ r.is refl | inr v ↦ of_trace v.deck _ a v.trace ]
+answer_is requests.Scan bytes a h = elim h [ inl r ↦ by a _ r.is refl | inr c ↦ by a _ c.is refl ]
+answer_is requests.Seq bytes a h = elim h [ inl r ↦ by a _ r.is refl | inr c ↦ by a _ c.run.is (end_is c.run.end) ]
+answer_is requests.Verify bytes a h = elim h [ inl r ↦ by a _ r.is refl | inr v ↦ of_trace v.deck _ a v.trace ]
 answer_is (requests.Load tasks) bytes a h = by a _ h.is (end_is h.end)
 
 -- a status that no answer has isn't that of the answer
@@ -97,10 +97,11 @@ says_unread request call s unread written sink = elim unread [
 ]
 
 pub unread_is_not_words : (before now : ℕ) (s : Status) → IsUnread before now s → s ≡ status.Words → ⊥
-unread_is_not_words before now s unread e = elim unread [ | inl h ↦ clash_read (sym h.0 ∙ e) | inr h ↦ clash_memory (sym h.0 ∙ e) ]
+unread_is_not_words before now s unread e = elim unread [ inl h ↦ clash_read (sym h.0 ∙ e) | inr h ↦ clash_memory (sym h.0 ∙ e) ]
   where
     clash_read : status.Read ≡ status.Words → ⊥
     clash_read x = absurd cc
+
     clash_memory : status.Memory ≡ status.Words → ⊥
     clash_memory x = absurd cc
 

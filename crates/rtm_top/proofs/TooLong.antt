@@ -7,8 +7,8 @@ use Rattle.rtm_io.specs.declared.input.InFault.{InFault}
 use Rattle.rtm_io.specs.declared.input.InFault.TheVariants.{TooLong}
 use Rattle.rtm_cards.specs.Limits.{max_bytes}
 use Rattle.rtm_cards.specs.Lines.{number_at}
-use Rattle.rtm_items.specs.declared.why.Why.TheVariants as whys
-use Rattle.rtm_items.specs.Faults.{IsFirstFault}
+use Rattle.rtm_deck_items.specs.declared.why.Why.TheVariants as whys
+use Rattle.rtm_deck_items.specs.Faults.{IsFirstFault}
 use Rattle.rtm_top.specs.declared.request.Request.{Request}
 use Rattle.rtm_top.specs.declared.request.Request.TheVariants as requests
 use Rattle.rtm_top.specs.Answer.{IsAnswer, IsDue}

@@ -2,17 +2,17 @@
 -- status comes where something is so of the bytes.
 use Rattle.std.specs.Prelude.{List, None, Option, Some, ℕ, ◌≡◌}
 use Rattle.rtm_io.specs.Faults.{HasRisen}
-use Rattle.rtm_items.specs.Faults.{IsFirstFault}
-use Rattle.rtm_items.specs.Spelling.{DeckText}
-use Rattle.rtm_items.specs.View.{DeckView}
-use Rattle.rtm_items.specs.declared.why.Why.{Why}
-use Rattle.rtm_judge.specs.Judged.{IsFirstIllegal, IsJudged, IsWrongEnd}
-use Rattle.rtm_load.specs.Deck.{load_deck}
+use Rattle.rtm_deck_items.specs.Faults.{IsFirstFault}
+use Rattle.rtm_deck_items.specs.Spelling.{DeckText}
+use Rattle.rtm_deck_items.specs.View.{DeckView}
+use Rattle.rtm_deck_items.specs.declared.why.Why.{Why}
+use Rattle.rtm_trace_judge.specs.Judged.{IsFirstIllegal, IsJudged, IsWrongEnd}
+use Rattle.rtm_deck_load.specs.Deck.{load_deck}
 use Rattle.rtm_model.specs.declared.entry.End.{End}
 use Rattle.rtm_model.specs.declared.entry.Entry.{Entry}
 use Rattle.rtm_model.specs.Legal.{end_of}
 use Rattle.rtm_model.specs.Turns.{seq}
-use Rattle.rtm_split.specs.Split.{trace_part}
+use Rattle.rtm_deck_split.specs.Split.{trace_part}
 use Rattle.rtm_trace.specs.Lines.{IsFirstBadLine, IsTraceOf}
 use Rattle.rtm_trace.specs.View.{TraceView}
 use Rattle.rtm_top_answers.specs.Status.{status_of}

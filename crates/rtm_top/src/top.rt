@@ -2,7 +2,7 @@
 
 ghost use Rattle.std.specs.Prelude.{◌≡◌, ◌≢◌, ◌↔◌, ◌≤◌, ◌+◌, ℕ, IfOk, IfErr, OnOk, OnErr, length};
 ghost use Rattle.rtm_io.specs.Stream.{TakesAtMost};
-ghost use Rattle.rtm_items.specs.Faults.{IsFirstFault};
+ghost use Rattle.rtm_deck_items.specs.Faults.{IsFirstFault};
 ghost use Rattle.rtm_top.specs.Answer.{IsAnswer, IsDue, IsSent, IsUnread, Says};
 ghost use Rattle.rtm_top.specs.Due.{AnswersWords};
 ghost use Rattle.rtm_top.specs.Request.{AreUnknown, IsRequest, Reads, words_of};
@@ -14,12 +14,14 @@ use crate::outcome::Outcome;
 use crate::request::{Request, request_of};
 use crate::word::RtmWord;
 use rtm_codes::NoMemory;
+use rtm_deck_items::Why;
 use rtm_io::{InFault, Sink, Source, read_all, write_all};
-use rtm_items::Why;
-use rtm_top_answers::{Answer, Status, load_answer, refusal, scan_answer, seq_answer, verify_answer};
+use rtm_top_answers::{
+    Answer, Status, load_answer, refusal, scan_answer, seq_answer, verify_answer,
+};
 use std::alloc::Global;
 
-/// At most this many bytes are read (this profile).
+// At most this many bytes are read (this profile).
 const INPUT_LIMIT: usize = 16_777_216;
 
 // Want of memory is the status Memory.
@@ -50,7 +52,7 @@ fn answer_of(alloc: Global, request: Request, bytes: &[u8]) -> Result<Answer, St
 }
 
 // What is to be written where more bytes came than are read, the first of them too many on that card.
-fn refused(alloc: Global, card: u32) -> Result<Answer, Status>
+fn too_long_answer(alloc: Global, card: u32) -> Result<Answer, Status>
     ensures ok { IfOk result (λ answer. answer ≡ refusal card Why.TooLong) }
     ensures err { IfErr result (λ status. status ≡ Status.Memory) }
 {
@@ -69,7 +71,7 @@ fn read_answer<S: Source>(alloc: Global, request: Request, src: &mut S) -> Resul
 {
     match read_all(alloc, src, INPUT_LIMIT) {
         Ok(bytes) => answer_of(alloc, request, &bytes),
-        Err(InFault::TooLong { line }) => refused(alloc, line),
+        Err(InFault::TooLong { line }) => too_long_answer(alloc, line),
         Err(InFault::Memory) => Err(Status::Memory),
         Err(InFault::Read) => Err(Status::Read),
     }
@@ -168,7 +170,12 @@ pub fn plain_words<S: Source, K: Sink>(
 
 // Does what is asked for, and answers the status.
 #[tactic(auto, using(crate::proofs::Saying::says_sent, crate::proofs::Saying::says_unread, crate::proofs::Saying::sent_is_not_read, crate::proofs::Saying::sent_is_not_memory, crate::proofs::Saying::sent_is_not_words, crate::proofs::Saying::unread_is_not_words))]
-fn status_after<S: Source, K: Sink>(alloc: Global, request: Request, src: &mut S, out: &mut K) -> Status
+fn status_after<S: Source, K: Sink>(
+    alloc: Global,
+    request: Request,
+    src: &mut S,
+    out: &mut K,
+) -> Status
     requires { IsRequest request }
     ensures known { result ≢ Status.Words }
     ensures untouched { (tasks : ℕ) → request ≡ Request.Load tasks → src.new ≡ src.old }

@@ -1,24 +1,24 @@
 -- What an answer is of, by what was found in the bytes.
 use Rattle.std.proofs.Common.{◌≡◌, ℕ, ◌≤◌, List, length, Option, Some, None, Result, Ok, Err, subst, inl, inr}
 use Rattle.std.specs.Prelude.{IfOk}
-use Rattle.rtm_items.specs.declared.why.Why.{Why}
-use Rattle.rtm_items.specs.Faults.{IsFirstFault}
-use Rattle.rtm_items.specs.Spelling.{DeckText}
-use Rattle.rtm_items.specs.View.{DeckView}
-use Rattle.rtm_judge.specs.Judged.{IsFirstIllegal, IsJudged, IsWrongEnd}
-use Rattle.rtm_load.specs.Deck.{load_deck}
+use Rattle.rtm_deck_items.specs.declared.why.Why.{Why}
+use Rattle.rtm_deck_items.specs.Faults.{IsFirstFault}
+use Rattle.rtm_deck_items.specs.Spelling.{DeckText}
+use Rattle.rtm_deck_items.specs.View.{DeckView}
+use Rattle.rtm_trace_judge.specs.Judged.{IsFirstIllegal, IsJudged, IsWrongEnd}
+use Rattle.rtm_deck_load.specs.Deck.{load_deck}
 use Rattle.rtm_model.specs.declared.entry.End.{End}
 use Rattle.rtm_model.specs.declared.entry.Entry.{Entry}
 use Rattle.rtm_model.specs.Legal.{Legal, end_of}
 use Rattle.rtm_model.specs.Turns.{seq}
-use Rattle.rtm_split.specs.Split.{deck_part, trace_part}
+use Rattle.rtm_deck_split.specs.Split.{deck_part, trace_part}
 use Rattle.rtm_trace.specs.Lines.{IsFirstBadLine, IsTraceOf}
 use Rattle.rtm_trace.specs.View.{TraceView}
-use Rattle.rtm_top_answers.specs.Load.{IsLoadOf, counted}
+use Rattle.rtm_top_answers.specs.Load.{IsLoadOf, counted_answer}
 use Rattle.rtm_top_answers.specs.Refusal.{refusal}
-use Rattle.rtm_top_answers.specs.Run.{IsRunBy, IsSeqAnswer, traced}
+use Rattle.rtm_top_answers.specs.Run.{IsRunBy, IsSeqAnswer, traced_answer}
 use Rattle.rtm_top_answers.specs.Scan.{IsScanAnswer, canonical}
-use Rattle.rtm_top_answers.specs.Verify.{IsJudgement, IsOfTrace, IsVerifyAnswer, bad_line, faulted_part, not_legal, verified, wrong_end}
+use Rattle.rtm_top_answers.specs.Verify.{IsJudgement, IsOfTrace, IsVerifyAnswer, bad_line, faulted_part, not_legal, verified_answer, wrong_end}
 use Rattle.rtm_top_answers.specs.View.{AnswerView}
 use Rattle.rtm_top_answers.proofs.Faulted.{is_deck_part}
 
@@ -37,7 +37,7 @@ scanned_deck bytes d (Err x) s e = tt
 -- ---- seq
 
 pub run_by : {E : Type 0} (d : DeckView) (history : List Entry) (end : End) (r : Result AnswerView E) → Legal d history → end_of d history ≡ Some end
-    → IfOk r (λ a. a ≡ traced d history end) → IfOk r (IsRunBy d history)
+    → IfOk r (λ a. a ≡ traced_answer d history end) → IfOk r (IsRunBy d history)
 run_by d history end (Ok a) l n e = record { legal = l; end = end; ends = n; is = e }
 run_by d history end (Err x) l n e = tt
 
@@ -55,7 +55,7 @@ run_deck bytes d (Err x) s run = tt
 
 pub load_of : {E : Type 0} (tasks : ℕ) (end : End) (r : Result AnswerView E) → Legal (load_deck tasks) (seq (load_deck tasks))
     → end_of (load_deck tasks) (seq (load_deck tasks)) ≡ Some end
-    → IfOk r (λ a. a ≡ counted tasks (seq (load_deck tasks)) end) → IfOk r (IsLoadOf tasks)
+    → IfOk r (λ a. a ≡ counted_answer tasks (seq (load_deck tasks)) end) → IfOk r (IsLoadOf tasks)
 load_of tasks end (Ok a) l n e = record { legal = l; end = end; ends = n; is = e }
 load_of tasks end (Err x) l n e = tt
 
@@ -72,7 +72,7 @@ names_end d t claimed found (Ok a) w e = inr (inl (record { stated = claimed; fo
 names_end d t claimed found (Err x) w e = tt
 
 pub accepts : {E : Type 0} (d : DeckView) (t : TraceView) (r : Result AnswerView E) → IsJudged d t.entries t.end
-    → IfOk r (λ a. a ≡ verified (length t.entries) t.end) → IfOk r (IsJudgement d t)
+    → IfOk r (λ a. a ≡ verified_answer (length t.entries) t.end) → IfOk r (IsJudgement d t)
 accepts d t (Ok a) j e = inr (inr (record { judged = j; is = e }))
 accepts d t (Err x) j e = tt
 
@@ -90,7 +90,7 @@ pub verified_fault : {E : Type 0} (bytes front : List ℕ) (card : ℕ) (why : W
     → IsFirstFault front card why → IfOk r (λ a. a ≡ refusal card why) → IfOk r (IsVerifyAnswer bytes)
 verified_fault bytes front card why (Ok a) few is f e =
     let there : IsFirstFault (faulted_part bytes) card why =
-        subst (λ (part : List ℕ). IsFirstFault part card why) (is_deck_part bytes few) (subst (λ (part : List ℕ). IsFirstFault part card why) is f) in
+    subst (λ (part : List ℕ). IsFirstFault part card why) (is_deck_part bytes few) (subst (λ (part : List ℕ). IsFirstFault part card why) is f) in
     inl (record { card = card; why = why; fault = there; is = e })
 verified_fault bytes front card why (Err x) few is f e = tt
 
@@ -98,6 +98,6 @@ pub verified_deck : {E : Type 0} (bytes front rest : List ℕ) (d : DeckView) (r
     → rest ≡ trace_part bytes → DeckText front d → IfOk r (IsOfTrace d rest) → IfOk r (IsVerifyAnswer bytes)
 verified_deck bytes front rest d (Ok a) few is behind s o =
     let spelled : DeckText (faulted_part bytes) d =
-        subst (λ (part : List ℕ). DeckText part d) (is_deck_part bytes few) (subst (λ (part : List ℕ). DeckText part d) is s) in
+    subst (λ (part : List ℕ). DeckText part d) (is_deck_part bytes few) (subst (λ (part : List ℕ). DeckText part d) is s) in
     inr (record { deck = d; spelled = spelled; trace = subst (λ (part : List ℕ). IsOfTrace d part a) behind o })
 verified_deck bytes front rest d (Err x) few is behind s o = tt

@@ -1,6 +1,6 @@
 -- What is written of a load: a deck that is made of so many tasks, and run (this profile).
 use Rattle.std.specs.Prelude.{Bool, List, Some, codes, count_by, decimal, false, length, true, ℕ, ◌++◌, ◌≡◌}
-use Rattle.rtm_load.specs.Deck.{load_deck}
+use Rattle.rtm_deck_load.specs.Deck.{load_deck}
 use Rattle.rtm_model.specs.declared.entry.End.{End}
 use Rattle.rtm_model.specs.declared.entry.Entry.{Entry}
 use Rattle.rtm_model.specs.declared.entry.What.{What}
@@ -26,12 +26,12 @@ load_line tasks entries end =
     ++ decimal (release_count entries) ++ codes " " ++ end_text end ++ codes "\n"
 
 -- the answer that is that line
-abbrev pub counted : ℕ → List Entry → End → AnswerView
-counted tasks entries end = record { text = load_line tasks entries end; status = status_of end }
+abbrev pub counted_answer : ℕ → List Entry → End → AnswerView
+counted_answer tasks entries end = record { text = load_line tasks entries end; status = status_of end }
 
 -- The answer counts the one history that a single thread makes of the deck that is made of so many tasks.
 pub record IsLoadOf (tasks : ℕ) (answer : AnswerView) : Type 0 where
   pub legal : Legal (load_deck tasks) (seq (load_deck tasks))
   pub end : End
   pub ends : end_of (load_deck tasks) (seq (load_deck tasks)) ≡ Some end
-  pub is : answer ≡ counted tasks (seq (load_deck tasks)) end
+  pub is : answer ≡ counted_answer tasks (seq (load_deck tasks)) end

@@ -1,8 +1,8 @@
 -- What is written of an input whose deck has a first fault (this profile).
 use Rattle.std.specs.Prelude.{List, codes, decimal, ℕ, ◌++◌, ◌≡◌}
-use Rattle.rtm_items.specs.Faults.{IsFirstFault}
-use Rattle.rtm_items.specs.declared.why.Why.{Why}
-use Rattle.rtm_items.specs.declared.why.Why.TheVariants as whys
+use Rattle.rtm_deck_items.specs.Faults.{IsFirstFault}
+use Rattle.rtm_deck_items.specs.declared.why.Why.{Why}
+use Rattle.rtm_deck_items.specs.declared.why.Why.TheVariants as whys
 use Rattle.rtm_top_answers.specs.declared.status.Status.TheVariants as status
 use Rattle.rtm_top_answers.specs.View.{AnswerView}
 

@@ -1,8 +1,8 @@
 -- What is written under `scan` (this profile).
 use Rattle.std.specs.Prelude.{List, ℕ, ◌≡◌, ◌⊎◌}
-use Rattle.rtm_items.specs.Canon.{canon}
-use Rattle.rtm_items.specs.Spelling.{DeckText}
-use Rattle.rtm_items.specs.View.{DeckView}
+use Rattle.rtm_deck_items.specs.Canon.{canon}
+use Rattle.rtm_deck_items.specs.Spelling.{DeckText}
+use Rattle.rtm_deck_items.specs.View.{DeckView}
 use Rattle.rtm_top_answers.specs.Refusal.{IsRefusalOf}
 use Rattle.rtm_top_answers.specs.declared.status.Status.TheVariants as status
 use Rattle.rtm_top_answers.specs.View.{AnswerView}

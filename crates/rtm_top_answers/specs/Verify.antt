@@ -1,12 +1,12 @@
 -- What is written of a trace that is verified (this profile).
 use Rattle.std.specs.Prelude.{List, None, Option, Some, codes, decimal, if◌then◌else◌, length, nat_lt, ℕ, ◌++◌, ◌≡◌, ◌⊎◌}
 use Rattle.rtm_cards.specs.Limits.{max_bytes}
-use Rattle.rtm_items.specs.Spelling.{DeckText}
-use Rattle.rtm_items.specs.View.{DeckView}
-use Rattle.rtm_judge.specs.Judged.{IsFirstIllegal, IsJudged, IsWrongEnd}
+use Rattle.rtm_deck_items.specs.Spelling.{DeckText}
+use Rattle.rtm_deck_items.specs.View.{DeckView}
+use Rattle.rtm_trace_judge.specs.Judged.{IsFirstIllegal, IsJudged, IsWrongEnd}
 use Rattle.rtm_model.specs.declared.entry.End.{End}
 use Rattle.rtm_model.specs.declared.entry.Entry.{Entry}
-use Rattle.rtm_split.specs.Split.{deck_part, trace_part}
+use Rattle.rtm_deck_split.specs.Split.{deck_part, trace_part}
 use Rattle.rtm_trace.specs.Lines.{IsFirstBadLine, IsTraceOf}
 use Rattle.rtm_trace.specs.Text.{end_text, entry_text}
 use Rattle.rtm_trace.specs.View.{TraceView}
@@ -54,8 +54,8 @@ wrong_end stated found = record { text = wrong_end_text stated found; status = s
 abbrev pub verified_text : ℕ → End → List ℕ
 verified_text entries end = codes "VERIFIED " ++ decimal entries ++ codes " " ++ end_text end ++ codes "\n"
 
-abbrev pub verified : ℕ → End → AnswerView
-verified entries end = record { text = verified_text entries end; status = status.Fine }
+abbrev pub verified_answer : ℕ → End → AnswerView
+verified_answer entries end = record { text = verified_text entries end; status = status.Fine }
 
 -- The answer names the first bad line of the bytes.
 pub record NamesLine (d : DeckView) (bytes : List ℕ) (answer : AnswerView) : Type 0 where
@@ -80,7 +80,7 @@ pub record NamesEnd (d : DeckView) (entries : List Entry) (end : End) (answer : 
 -- The entries are a legal history that ends so, and the answer says that.
 pub record Accepts (d : DeckView) (entries : List Entry) (end : End) (answer : AnswerView) : Type 0 where
   pub judged : IsJudged d entries end
-  pub is : answer ≡ verified (length entries) end
+  pub is : answer ≡ verified_answer (length entries) end
 
 -- what is written of a trace that was read, by its judgement
 abbrev pub IsJudgement : DeckView → TraceView → AnswerView → Type 0

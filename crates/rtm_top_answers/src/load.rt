@@ -2,18 +2,18 @@
 
 ghost use Rattle.std.specs.Prelude.{◌≡◌, ◌≤◌, ◌++◌, IfOk, OnOk, length};
 ghost use Rattle.std.specs.List.{count_by};
-ghost use Rattle.rtm_top_answers.specs.Load.{IsLoadOf, counted, load_line, release_count};
+ghost use Rattle.rtm_top_answers.specs.Load.{IsLoadOf, counted_answer, load_line, release_count};
 
 use crate::answer::Answer;
 use crate::run::system_after_run;
 use crate::status::Status;
 use rtm_codes::NoMemory;
-use rtm_load::load_deck;
+use rtm_deck_load::load_deck;
 use rtm_model::{End, Entry, What};
 use rtm_trace::{end_word, push};
 use std::alloc::Global;
 
-/// How many holdings were released.
+// How many holdings were released.
 fn release_count(entries: &[Entry]) -> usize
     ensures { result ≡ release_count entries.now }
 {
@@ -38,8 +38,8 @@ fn push_load(out: &mut Vec<u8>, tasks: u8, entries: &[Entry], end: End) -> Resul
 }
 
 // The line that counts the entries of a run of so many tasks.
-fn counted(alloc: Global, tasks: u8, entries: &[Entry], end: End) -> Result<Answer, NoMemory>
-    ensures { IfOk result (λ answer. answer ≡ counted tasks entries.now end) }
+fn counted_answer(alloc: Global, tasks: u8, entries: &[Entry], end: End) -> Result<Answer, NoMemory>
+    ensures { IfOk result (λ answer. answer ≡ counted_answer tasks entries.now end) }
 {
     let mut text = Vec::new(alloc);
     push_load(&mut text, tasks, entries, end)?;
@@ -59,5 +59,5 @@ pub fn load_answer(alloc: Global, tasks: u8) -> Result<Answer, NoMemory>
 {
     let system = system_after_run(alloc, load_deck(alloc, tasks)?)?;
     let end = system.end().unwrap();
-    counted(alloc, tasks, system.trace(), end)
+    counted_answer(alloc, tasks, system.trace(), end)
 }

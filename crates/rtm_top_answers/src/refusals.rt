@@ -6,7 +6,7 @@ ghost use Rattle.rtm_top_answers.specs.Refusal.{refusal, refusal_text, why_text}
 use crate::answer::Answer;
 use crate::status::Status;
 use rtm_codes::NoMemory;
-use rtm_items::Why;
+use rtm_deck_items::Why;
 use rtm_trace::push;
 use std::alloc::Global;
 

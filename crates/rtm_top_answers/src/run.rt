@@ -3,7 +3,7 @@
 ghost use Rattle.std.specs.Prelude.{◌≡◌, IfOk, IsSome};
 ghost use Rattle.rtm_model.specs.Legal.{Legal, end_of};
 ghost use Rattle.rtm_model.specs.Turns.{seq};
-ghost use Rattle.rtm_top_answers.specs.Run.{IsRunBy, IsSeqAnswer, traced};
+ghost use Rattle.rtm_top_answers.specs.Run.{IsRunBy, IsSeqAnswer, traced_answer};
 
 use crate::answer::Answer;
 use crate::refusals::refusal;
@@ -12,7 +12,7 @@ use rtm_board::all_notes;
 use rtm_codes::NoMemory;
 use rtm_crew::seq_run;
 use rtm_deck::{DeckFault, read_deck};
-use rtm_items::Deck;
+use rtm_deck_items::Deck;
 use rtm_model::End;
 use rtm_system::System;
 use rtm_trace::trace_text;
@@ -31,8 +31,8 @@ pub(crate) fn system_after_run(alloc: Global, deck: Deck) -> Result<System, NoMe
 }
 
 // The trace of a system, to its end.
-fn traced(alloc: Global, system: &System, end: End) -> Result<Answer, NoMemory>
-    ensures { IfOk result (λ answer. answer ≡ traced system.now.deck system.now.trace end) }
+fn traced_answer(alloc: Global, system: &System, end: End) -> Result<Answer, NoMemory>
+    ensures { IfOk result (λ answer. answer ≡ traced_answer system.now.deck system.now.trace end) }
 {
     Ok(Answer {
         text: trace_text(alloc, system.deck(), system.trace(), end)?,
@@ -48,7 +48,7 @@ fn run_answer(alloc: Global, deck: Deck) -> Result<Answer, NoMemory>
     let system = system_after_run(alloc, deck)?;
     let end = system.end().unwrap();
     system.trace();
-    traced(alloc, &system, end)
+    traced_answer(alloc, &system, end)
 }
 
 /// What is to be written for the bytes of a deck under the word `seq`: the trace of its run, or its first fault.

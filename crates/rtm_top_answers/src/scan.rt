@@ -8,7 +8,7 @@ use crate::refusals::refusal;
 use crate::status::Status;
 use rtm_codes::NoMemory;
 use rtm_deck::{DeckFault, deck_text, read_deck};
-use rtm_items::Deck;
+use rtm_deck_items::Deck;
 use std::alloc::Global;
 
 // The canonical text of a deck.

@@ -3,7 +3,7 @@
 ghost use Rattle.std.specs.Prelude.{◌≡◌, ◌≤◌, ◌++◌, IfOk, IfSome, OnOk, length};
 ghost use Rattle.rtm_model.specs.Fits.{Fits};
 ghost use Rattle.rtm_top_answers.specs.Verify.{IsJudgement, IsOfTrace, IsVerifyAnswer, bad_line, bad_line_text, found_text};
-ghost use Rattle.rtm_top_answers.specs.Verify.{not_legal, not_legal_text, verified, verified_text, wanted_text};
+ghost use Rattle.rtm_top_answers.specs.Verify.{not_legal, not_legal_text, verified_answer, verified_text, wanted_text};
 ghost use Rattle.rtm_top_answers.specs.Verify.{wrong_end, wrong_end_text};
 
 use crate::answer::Answer;
@@ -11,11 +11,11 @@ use crate::refusals::refusal;
 use crate::status::Status;
 use rtm_codes::NoMemory;
 use rtm_deck::{DeckFault, read_deck};
-use rtm_items::Deck;
-use rtm_judge::{JudgeFault, judge};
+use rtm_deck_items::Deck;
+use rtm_deck_split::split;
 use rtm_model::{End, Entry};
-use rtm_split::split;
 use rtm_trace::{Trace, TraceFault, end_word, push, push_entry, read_trace};
+use rtm_trace_judge::{JudgeFault, judge};
 use std::alloc::Global;
 
 fn push_wanted(out: &mut Vec<u8>, deck: &Deck, wanted: Option<Entry>) -> Result<(), NoMemory>
@@ -124,8 +124,8 @@ fn wrong_end(alloc: Global, stated: End, found: Option<End>) -> Result<Answer, N
 }
 
 // What is written where the trace is accepted.
-fn verified(alloc: Global, trace: &Trace) -> Result<Answer, NoMemory>
-    ensures { IfOk result (λ answer. answer ≡ verified (length trace.now.entries) trace.now.end) }
+fn verified_answer(alloc: Global, trace: &Trace) -> Result<Answer, NoMemory>
+    ensures { IfOk result (λ answer. answer ≡ verified_answer (length trace.now.entries) trace.now.end) }
 {
     let mut text = Vec::new(alloc);
     push_verified(&mut text, trace.entries.len() as u64, trace.end)?;
@@ -141,7 +141,7 @@ fn judgement(alloc: Global, deck: &Deck, trace: &Trace) -> Result<Answer, NoMemo
     ensures { IfOk result (IsJudgement deck.now trace.now) }
 {
     match judge(alloc, deck, &trace.entries, trace.end) {
-        Ok(()) => verified(alloc, trace),
+        Ok(()) => verified_answer(alloc, trace),
         Err(JudgeFault::NotLegal { index, wanted }) => not_legal(alloc, deck, index, wanted),
         Err(JudgeFault::WrongEnd { stated, found }) => wrong_end(alloc, stated, found),
         Err(JudgeFault::Memory) => Err(NoMemory),

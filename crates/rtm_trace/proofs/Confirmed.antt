@@ -7,9 +7,9 @@ use Rattle.std.proofs.lemmas.Option.{option_and_then_some, same_Some}
 use Rattle.std.proofs.lemmas.Slice.Eq.{bytes_eq-Decides}
 use Rattle.rtm_codes.specs.declared.code.Code.{Code}
 use Rattle.rtm_codes.specs.Code.{number_of, in_range, IsInRange}
-use Rattle.rtm_items.specs.View.{DeckView}
-use Rattle.rtm_items.specs.WellFormed.{is_well_formed}
-use Rattle.rtm_items.specs.Reading.{lines_of}
+use Rattle.rtm_deck_items.specs.View.{DeckView}
+use Rattle.rtm_deck_items.specs.WellFormed.{is_well_formed}
+use Rattle.rtm_deck_items.specs.Reading.{lines_of}
 use Rattle.rtm_model.specs.declared.block.Place.{Place}
 use Rattle.rtm_model.specs.declared.entry.End.{End}
 use Rattle.rtm_model.specs.declared.entry.End.TheVariants.{Ended, Stalled, Limit}
@@ -25,7 +25,7 @@ use Rattle.rtm_model.specs.Fits.{Fits, WhatFits, VerdictFits}
 use Rattle.rtm_trace.specs.Text.{line_text, end_line}
 use Rattle.rtm_trace.specs.Lines.{IsEntryLine, IsEndLine}
 use Rattle.rtm_trace.specs.Words.{word_of, names_of, end_in}
-use Rattle.rtm_trace.specs.Reading.{is_place, is_reason, is_mark, verdict_fits, what_fits, fits, confirmed, entry_on, line_in}
+use Rattle.rtm_trace.specs.Reading.{is_place, is_reason, is_mark, verdict_fits, what_fits, fits, confirmed_entry, entry_on, line_in}
 use Rattle.rtm_trace.proofs.Cuts.{word_of-text}
 use Rattle.rtm_trace.proofs.Numbers.{is_low, low_decimal, plain_decimal}
 use Rattle.rtm_trace.proofs.Entries.{line_read, line_laid}
@@ -123,7 +123,7 @@ chosen : {X : Type 0} (b : Bool) (x y : X) → (if b then Some x else None) ≡ 
 chosen true x y e = (refl, same_Some x y e)
 chosen false x y e = absurd cc
 
-confirmed_good : (d : DeckView) (n : ℕ) (line : List ℕ) (e found : Entry) → confirmed d n line e ≡ Some found → Fits d found × (line ≡ line_text d n found)
+confirmed_good : (d : DeckView) (n : ℕ) (line : List ℕ) (e found : Entry) → confirmed_entry d n line e ≡ Some found → Fits d found × (line ≡ line_text d n found)
 confirmed_good d n line e found h =
     let c = chosen (fits d e && bytes_eq (line_text d n e) line) e found h in
     let p = and_parts (fits d e) (bytes_eq (line_text d n e) line) c.0 in
@@ -133,7 +133,7 @@ confirmed_good d n line e found h =
 -- the entry that is found is the line's
 pub entry_found : (d : DeckView) (n : ℕ) (line : List ℕ) (found : Entry) → entry_on d n line ≡ Some found → Fits d found × (line ≡ line_text d n found)
 entry_found d n line found h =
-    option_and_then_some (confirmed d n line) (line_in (names_of d) (length d.units) line) found h
+    option_and_then_some (confirmed_entry d n line) (line_in (names_of d) (length d.units) line) found h
     (λ e there passes. confirmed_good d n line e found passes)
 
 -- the entry of a line is found

@@ -4,10 +4,10 @@ use Rattle.std.specs.Prelude.{codes, decimal, IsTrue}
 use Rattle.rtm_codes.specs.declared.code.Code.{Code}
 use Rattle.rtm_codes.specs.Code.{text_of}
 use Rattle.rtm_codes.specs.Reading.{code_in}
-use Rattle.rtm_items.specs.View.{DeckView}
-use Rattle.rtm_items.specs.WellFormed.{is_well_formed}
-use Rattle.rtm_items.proofs.FormFacts.{limits}
-use Rattle.rtm_operands.specs.declared.value.Res.{Res}
+use Rattle.rtm_deck_items.specs.View.{DeckView}
+use Rattle.rtm_deck_items.specs.WellFormed.{is_well_formed}
+use Rattle.rtm_deck_items.proofs.FormFacts.{limits}
+use Rattle.rtm_deck_operands.specs.declared.value.Res.{Res}
 use Rattle.rtm_model.specs.declared.block.Place.{Place}
 use Rattle.rtm_model.specs.declared.entry.Class.{Class}
 use Rattle.rtm_model.specs.declared.entry.Entry.{Entry}
@@ -20,7 +20,7 @@ use Rattle.rtm_model.specs.declared.reg.Kind.{Kind}
 use Rattle.rtm_model.specs.Fits.{Fits, WhatFits}
 use Rattle.rtm_trace.specs.Text.{unit_text, place_text, reason_text, flag_text, mark_text, kind_text, class_text, res_text, fate_text, posted_text, verdict_text, what_text, entry_text, line_text}
 use Rattle.rtm_trace.specs.Words.{word_of, rest_of, behind, number_in, names_of, NamesView, kind_in, class_in, res_in, fate_in}
-use Rattle.rtm_trace.specs.Reading.{unit_in, place_in, index_in, flag_in, behind_flag, mark_in, posted_in, behind_posted, verdict_in, behind_verdict, exec_in, error_in, land_in, enter_in, leave_in, arrive_in, begin_in, release_in, done_in, purge_in, what_in, line_in}
+use Rattle.rtm_trace.specs.Reading.{unit_in, place_in, index_in, flag_in, behind_flag, mark_in, fate_behind, behind_fate, verdict_in, behind_verdict, exec_in, error_in, land_in, enter_in, leave_in, arrive_in, begin_in, release_in, done_in, purge_in, what_in, line_in}
 use Rattle.rtm_trace.proofs.Cuts.{plain, ends_word, word_of-text, rest_of-text}
 use Rattle.rtm_trace.proofs.Numbers.{number_in-decimal, plain_decimal}
 use Rattle.rtm_trace.proofs.Parts.{kind_read, kind_plain, class_read, class_plain, res_read, res_plain, fate_read, fate_plain, leave_tail, leave_end, logrec_read, leave_dump_read, begin_tail, begin_end, dump_read, done_tail, done_end, task_read, step_read, plain_code, code_read, mark_tail, mark_read, unit_plain, unit_read, place_plain, place_read, verdict_read, verdict_behind}
@@ -101,7 +101,7 @@ release_by : (names : NamesView) (count : ℕ) (line word rest other more last e
 release_by names count line word rest other more last end class id owner c k l e f g = rw (c.word, c.rest, k.word, k.rest, l.word, e, f, g) refl
 
 done_by : (line word rest : List ℕ) (code : Code) (to_task to_step : Option Fate) → Cut line word rest → code_in word ≡ Some code
-    → posted_in (codes "TASK") (word_of rest) ≡ to_task → posted_in (codes "STEP") (word_of (behind_posted (codes "TASK") rest)) ≡ to_step
+    → fate_behind (codes "TASK") (word_of rest) ≡ to_task → fate_behind (codes "STEP") (word_of (behind_fate (codes "TASK") rest)) ≡ to_step
     → done_in line ≡ Some (Done code to_task to_step)
 done_by line word rest code to_task to_step c e f g = rw (c.word, c.rest, e) (λ t. Some (Done code (f t) (g t)))
 

@@ -3,7 +3,7 @@ use Rattle.std.proofs.Common.{◌≡◌, ℕ, ◌+◌, ◌<◌, Bool, true, fals
 use Rattle.rtm_model.specs.declared.entry.Entry.{Entry}
 use Rattle.rtm_model.specs.declared.entry.End.{End}
 use Rattle.rtm_trace.specs.Lines.{text_lines}
-use Rattle.rtm_trace.specs.Reading.{ended}
+use Rattle.rtm_trace.specs.Reading.{trace_at_end}
 use Rattle.rtm_trace.specs.Words.{first_of, after_of}
 
 -- the lines where the first byte ends one or not
@@ -26,5 +26,5 @@ pub lines_cut : (text line rest : List ℕ) → 0 < length text → line ≡ fir
 lines_cut text line rest h e f = rw (e, f) (lines_first text h)
 
 -- a line behind the end
-pub ended_more : (entries : List Entry) (end : End) (text : List ℕ) → 0 < length text → ended entries end (text_lines text) ≡ Err (length entries + 3)
+pub ended_more : (entries : List Entry) (end : End) (text : List ℕ) → 0 < length text → trace_at_end entries end (text_lines text) ≡ Err (length entries + 3)
 ended_more entries end text h = rw (lines_first text h) refl

@@ -8,15 +8,15 @@ use Rattle.std.proofs.lemmas.List.Folds.{list_any-append}
 use Rattle.std.proofs.lemmas.Slice.Eq.{bytes_eq-Decides}
 use Rattle.std.proofs.lemmas.Option.{slice_get-map, slice_get_within}
 use Rattle.rtm_cards.specs.Name.{is_letter, is_name_byte, is_name}
-use Rattle.rtm_items.specs.declared.deck.Unit.{Unit as UnitCard}
-use Rattle.rtm_items.specs.View.{ProgramView, DeckView}
-use Rattle.rtm_items.specs.WellFormed.{is_well_formed, are_distinct, is_program_of, is_unit_of}
-use Rattle.rtm_items.proofs.FormFacts.{conditions, limits}
-use Rattle.rtm_items.proofs.Lists.{at_from_list_all, both_true}
-use Rattle.rtm_operands.specs.Name.{trimmed, is_padded_name}
-use Rattle.rtm_operands.specs.Reading.{name_in}
-use Rattle.rtm_operands.proofs.Names.{padded_parts, name_parts}
-use Rattle.rtm_trace.specs.Words.{put_name, put_names, named, is_inner}
+use Rattle.rtm_deck_items.specs.declared.deck.Unit.{Unit as UnitCard}
+use Rattle.rtm_deck_items.specs.View.{ProgramView, DeckView}
+use Rattle.rtm_deck_items.specs.WellFormed.{is_well_formed, are_distinct, is_program_of, is_unit_of}
+use Rattle.rtm_deck_items.proofs.FormFacts.{conditions, limits}
+use Rattle.rtm_deck_items.proofs.Lists.{at_from_list_all, both_true}
+use Rattle.rtm_deck_operands.specs.Name.{trimmed_text, is_padded_name}
+use Rattle.rtm_deck_operands.specs.Reading.{name_in}
+use Rattle.rtm_deck_operands.proofs.Names.{padded_parts, name_parts}
+use Rattle.rtm_trace.specs.Words.{put_name, put_names, number_of_name, is_inner}
 use Rattle.rtm_trace.proofs.Cuts.{plain, lacks, each_test}
 
 same_eq : (a : List ℕ) → bytes_eq a a ≡ true
@@ -113,14 +113,14 @@ found names i name d e =
     rw (found_len names i name d e, lt-ltb i (length names) (slice_get_within names i name e)) refl
 
 -- the text of a name is read as that name
-pub name_read : (name : List ℕ) → is_padded_name name ≡ true → name_in (trimmed name) ≡ Some name
+pub name_read : (name : List ℕ) → is_padded_name name ≡ true → name_in (trimmed_text name) ≡ Some name
 name_read name h =
     let p = padded_parts name h in rw p.name (ap Some (sym p.whole))
 
 pub named_found : (names : List (List ℕ)) (i : ℕ) (name : List ℕ) → are_distinct names ≡ true → slice_get names i ≡ Some name → is_padded_name name ≡ true → i < 65536
-    → named (put_names [] names) (trimmed name) ≡ Some i
+    → number_of_name (put_names [] names) (trimmed_text name) ≡ Some i
 named_found names i name d e h small =
-    ap (λ (xs : List (List ℕ)). named xs (trimmed name)) (put_all names d)
+    ap (λ (xs : List (List ℕ)). number_of_name xs (trimmed_text name)) (put_all names d)
     ∙ rw (name_read name h, found names i name d e, lt-ltb i 65536 small) refl
 
 -- what holds of the name's bytes
@@ -140,11 +140,11 @@ name_bytes : (text : List ℕ) → is_name text ≡ true → list_all is_name_by
 name_bytes [] h = absurd cc
 name_bytes (b ∷ bs) h = let p = name_parts b bs h in and_from _ _ (letter_is_name_byte b p.letter) p.bytes
 
-pub plain_name : (name : List ℕ) → is_padded_name name ≡ true → plain (trimmed name) ≡ true
-plain_name name h = each_test is_name_byte is_inner name_byte_inner (trimmed name) (name_bytes (trimmed name) (padded_parts name h).name)
+pub plain_name : (name : List ℕ) → is_padded_name name ≡ true → plain (trimmed_text name) ≡ true
+plain_name name h = each_test is_name_byte is_inner name_byte_inner (trimmed_text name) (name_bytes (trimmed_text name) (padded_parts name h).name)
 
-pub no_point : (name : List ℕ) → is_padded_name name ≡ true → lacks 46 (trimmed name) ≡ true
-no_point name h = each_test is_name_byte (λ b. not (eqb b 46)) name_byte_no_point (trimmed name) (name_bytes (trimmed name) (padded_parts name h).name)
+pub no_point : (name : List ℕ) → is_padded_name name ≡ true → lacks 46 (trimmed_text name) ≡ true
+no_point name h = each_test is_name_byte (λ b. not (eqb b 46)) name_byte_no_point (trimmed_text name) (name_bytes (trimmed_text name) (padded_parts name h).name)
 
 asterisk_apart : (text : List ℕ) → is_name text ≡ true → bytes_eq text (42 ∷ []) ≡ false
 asterisk_apart [] h = absurd cc
@@ -158,8 +158,8 @@ asterisk_apart (b ∷ bs) h = go (bytes_eq (b ∷ bs) (42 ∷ [])) refl
         let no : is_letter 42 ≡ true = subst (λ (x : ℕ). is_letter x ≡ true) first (name_parts b bs h).letter in
         absurd cc
 
-pub no_asterisk : (name : List ℕ) → is_padded_name name ≡ true → bytes_eq (trimmed name) (42 ∷ []) ≡ false
-no_asterisk name h = asterisk_apart (trimmed name) (padded_parts name h).name
+pub no_asterisk : (name : List ℕ) → is_padded_name name ≡ true → bytes_eq (trimmed_text name) (42 ∷ []) ≡ false
+no_asterisk name h = asterisk_apart (trimmed_text name) (padded_parts name h).name
 
 -- the names of a well-formed deck
 pub record NamesFact (d : DeckView) : Type 0 where
@@ -182,7 +182,7 @@ pub record UnitFact (d : DeckView) (i : ℕ) : Type 0 where
   pub card : UnitCard
   pub there : slice_get d.units i ≡ Some card
   pub name : is_padded_name card.name ≡ true
-  pub read : named (put_names [] (map (λ (u : UnitCard). u.name) d.units)) (trimmed card.name) ≡ Some i
+  pub read : number_of_name (put_names [] (map (λ (u : UnitCard). u.name) d.units)) (trimmed_text card.name) ≡ Some i
 
 pub unit_fact : (d : DeckView) → IsTrue (is_well_formed d) → (i : ℕ) → i < length d.units → UnitFact d i
 unit_fact d w i less =
@@ -202,7 +202,7 @@ pub record ProgramFact (d : DeckView) (i : ℕ) : Type 0 where
   pub program : ProgramView
   pub there : slice_get d.programs i ≡ Some program
   pub name : is_padded_name program.name ≡ true
-  pub read : named (put_names [] (map (λ (p : ProgramView). p.name) d.programs)) (trimmed program.name) ≡ Some i
+  pub read : number_of_name (put_names [] (map (λ (p : ProgramView). p.name) d.programs)) (trimmed_text program.name) ≡ Some i
 
 pub program_fact : (d : DeckView) → IsTrue (is_well_formed d) → (i : ℕ) → i < length d.programs → ProgramFact d i
 program_fact d w i less =

@@ -8,13 +8,13 @@ use Rattle.rtm_codes.specs.Code.{text_of, IsInRange, IsVisible}
 use Rattle.rtm_codes.specs.Reading.{code_in}
 use Rattle.rtm_codes.proofs.Spellings.{code_in-spelled}
 use Rattle.rtm_codes.proofs.Written.{Spells-text_of, IsVisible-spelled}
-use Rattle.rtm_items.specs.View.{DeckView}
-use Rattle.rtm_items.specs.WellFormed.{is_well_formed}
-use Rattle.rtm_items.specs.Reading.{lines_of}
-use Rattle.rtm_items.proofs.FormFacts.{lines_bound}
-use Rattle.rtm_operands.specs.Name.{trimmed}
-use Rattle.rtm_operands.specs.declared.value.Res.{Res}
-use Rattle.rtm_operands.specs.declared.value.Res.TheVariants as res
+use Rattle.rtm_deck_items.specs.View.{DeckView}
+use Rattle.rtm_deck_items.specs.WellFormed.{is_well_formed}
+use Rattle.rtm_deck_items.specs.Reading.{lines_of}
+use Rattle.rtm_deck_items.proofs.FormFacts.{lines_bound}
+use Rattle.rtm_deck_operands.specs.Name.{trimmed_text}
+use Rattle.rtm_deck_operands.specs.declared.value.Res.{Res}
+use Rattle.rtm_deck_operands.specs.declared.value.Res.TheVariants as res
 use Rattle.rtm_model.specs.declared.block.Place.{Place}
 use Rattle.rtm_model.specs.declared.entry.Class.{Class}
 use Rattle.rtm_model.specs.declared.entry.Class.TheVariants as class
@@ -30,7 +30,7 @@ use Rattle.rtm_model.specs.Soundness.{IsPlace}
 use Rattle.rtm_model.specs.Fits.{VerdictFits}
 use Rattle.rtm_trace.specs.Text.{unit_text, place_text, reason_text, reason_digits, flag_text, kind_text, class_text, res_text, fate_text, posted_text, verdict_text}
 use Rattle.rtm_trace.specs.Words.{is_inner, word_of, rest_of, names_of, kind_in, class_in, res_in, fate_in, NamesView}
-use Rattle.rtm_trace.specs.Reading.{unit_in, place_in, flag_in, behind_flag, reason_in, flagged, reasoned_by, reasoned, mark_in, posted_in, behind_posted, plain_verdict, verdict_in, behind_verdict}
+use Rattle.rtm_trace.specs.Reading.{unit_in, place_in, flag_in, behind_flag, reason_in, mark_of_flags, mark_behind_reason, mark_behind_code, mark_in, fate_behind, behind_fate, plain_verdict, verdict_in, behind_verdict}
 use Rattle.rtm_trace.proofs.Cuts.{plain, ends_word, word_of-text, rest_of-text, before-text, behind-text, test_append}
 use Rattle.rtm_trace.proofs.Numbers.{number_in-decimal, plain_decimal, number_in-reason, plain_reason}
 use Rattle.rtm_trace.proofs.Lookups.{UnitFact, unit_fact, ProgramFact, program_fact, plain_name, no_point, no_asterisk}
@@ -98,7 +98,7 @@ flags_end false false true = refl
 flags_end false false false = refl
 
 pub flags_read : (code : Code) (reason : Option ℕ) (clup perc staf : Bool)
-    → flagged code reason (drop 1 (flags_tail clup perc staf)) ≡ record { code = code; reason = reason; clup = clup; perc = perc; staf = staf }
+    → mark_of_flags code reason (drop 1 (flags_tail clup perc staf)) ≡ record { code = code; reason = reason; clup = clup; perc = perc; staf = staf }
 flags_read code reason true true true = refl
 flags_read code reason true true false = refl
 flags_read code reason true false true = refl
@@ -161,7 +161,7 @@ done_end (Some f) to_step = refl
 done_end None (Some f) = refl
 done_end None None = refl
 
-pub task_read : (to_task to_step : Option Fate) → posted_in (codes "TASK") (word_of (drop 1 (done_tail to_task to_step))) ≡ to_task
+pub task_read : (to_task to_step : Option Fate) → fate_behind (codes "TASK") (word_of (drop 1 (done_tail to_task to_step))) ≡ to_task
 task_read None None = refl
 task_read None (Some fate.Queued) = refl
 task_read None (Some fate.Merged) = refl
@@ -179,7 +179,7 @@ task_read (Some fate.Late) (Some fate.Queued) = refl
 task_read (Some fate.Late) (Some fate.Merged) = refl
 task_read (Some fate.Late) (Some fate.Late) = refl
 
-pub step_read : (to_task to_step : Option Fate) → posted_in (codes "STEP") (word_of (behind_posted (codes "TASK") (drop 1 (done_tail to_task to_step)))) ≡ to_step
+pub step_read : (to_task to_step : Option Fate) → fate_behind (codes "STEP") (word_of (behind_fate (codes "TASK") (drop 1 (done_tail to_task to_step)))) ≡ to_step
 step_read None None = refl
 step_read None (Some fate.Queued) = refl
 step_read None (Some fate.Merged) = refl
@@ -216,11 +216,11 @@ reason_end : (reason : Option ℕ) (clup perc staf : Bool) → ends_word (reason
 reason_end None clup perc staf = flags_end clup perc staf
 reason_end (Some n) clup perc staf = refl
 
-with_reason : (code : Code) (found reason : Option ℕ) (line : List ℕ) (mark : Mark) → found ≡ reason → reasoned_by code reason line ≡ mark → reasoned_by code found line ≡ mark
+with_reason : (code : Code) (found reason : Option ℕ) (line : List ℕ) (mark : Mark) → found ≡ reason → mark_behind_reason code reason line ≡ mark → mark_behind_reason code found line ≡ mark
 with_reason code found reason line mark e f = rw e f
 
 reason_read : (code : Code) (reason : Option ℕ) (clup perc staf : Bool) → ((n : ℕ) → reason ≡ Some n → n < 4294967296)
-    → reasoned code (drop 1 (reason_text reason ++ flags_tail clup perc staf)) ≡ record { code = code; reason = reason; clup = clup; perc = perc; staf = staf }
+    → mark_behind_code code (drop 1 (reason_text reason ++ flags_tail clup perc staf)) ≡ record { code = code; reason = reason; clup = clup; perc = perc; staf = staf }
 reason_read code None clup perc staf small =
     with_reason code _ None (drop 1 (flags_tail clup perc staf)) _ (no_reason clup perc staf) (flags_read code None clup perc staf)
 reason_read code (Some n) clup perc staf small =
@@ -231,7 +231,7 @@ reason_read code (Some n) clup perc staf small =
     let rest : rest_of (digits ++ tail) ≡ drop 1 tail = rest_of-text digits tail (plain_reason n) end in
     let found : reason_in (codes "REASON=" ++ word_of (digits ++ tail)) ≡ Some n = rw word (number_in-reason n (small n refl)) in
     with_reason code _ (Some n) (codes "REASON=" ++ (digits ++ tail)) _ found
-    (ap (flagged code (Some n)) rest ∙ flags_read code (Some n) clup perc staf)
+    (ap (mark_of_flags code (Some n)) rest ∙ flags_read code (Some n) clup perc staf)
 
 reason_small : (mark : Mark) → IsMark mark → (n : ℕ) → mark.reason ≡ Some n → n < 4294967296
 reason_small mark h n e = let r = h.reason in let s = rw e at r in s
@@ -253,7 +253,7 @@ behind_by line word rest e f g = rw (e, f) g
 
 -- units and places of a well-formed deck
 module _ (d : DeckView) (w : IsTrue (is_well_formed d)) where
-  pub unit_named : (u : ℕ) (f : UnitFact d u) → u < length d.units → unit_text d u ≡ trimmed f.card.name
+  pub unit_named : (u : ℕ) (f : UnitFact d u) → u < length d.units → unit_text d u ≡ trimmed_text f.card.name
   unit_named u f less = rw (ne_eqb u (length d.units) (λ e. absurd (omega arith)), f.there) refl
 
   pub master_text : unit_text d (length d.units) ≡ 42 ∷ []
@@ -275,8 +275,8 @@ module _ (d : DeckView) (w : IsTrue (is_well_formed d)) where
         ap (λ (k : ℕ). unit_in (names_of d) (length d.units) (unit_text d k)) same ∙ (ap (unit_in (names_of d) (length d.units)) master_text ∙ ap Some (sym same))
   ]
 
-  pub place_named : (place : Place) (f : ProgramFact d place.prog) → place_text d place ≡ trimmed f.program.name ++ 46 ∷ decimal place.op
-  place_named place f = rw f.there (append_assoc (trimmed f.program.name) (codes ".") (decimal place.op))
+  pub place_named : (place : Place) (f : ProgramFact d place.prog) → place_text d place ≡ trimmed_text f.program.name ++ 46 ∷ decimal place.op
+  place_named place f = rw f.there (append_assoc (trimmed_text f.program.name) (codes ".") (decimal place.op))
 
   pub op_small : (place : Place) → IsPlace d place → place.op ≤ 10001
   op_small place h =
@@ -292,13 +292,13 @@ module _ (d : DeckView) (w : IsTrue (is_well_formed d)) where
       let small = op_small place h in
       let fits : place.op < 2 ^ 64 = omega (arith, small) in
       ap plain (place_named place f)
-      ∙ test_append is_inner (trimmed f.program.name) (46 ∷ decimal place.op) (plain_name f.program.name f.name) (plain_decimal place.op fits)
+      ∙ test_append is_inner (trimmed_text f.program.name) (46 ∷ decimal place.op) (plain_name f.program.name f.name) (plain_decimal place.op fits)
 
   pub place_read : (place : Place) → IsPlace d place → place_in (names_of d) (place_text d place) ≡ Some place
   place_read place h =
       let f = program_fact d w place.prog h.prog in
       let small = op_small place h in
-      let name = trimmed f.program.name in
+      let name = trimmed_text f.program.name in
       let tail : List ℕ = 46 ∷ decimal place.op in
       let front = before-text 46 name tail (no_point f.program.name f.name) refl in
       let back = behind-text 46 name tail (no_point f.program.name f.name) refl in

@@ -8,12 +8,12 @@ use Rattle.std.proofs.lemmas.Fmt.{length-decimal-le}
 use Rattle.rtm_codes.specs.declared.code.Code.{Code}
 use Rattle.rtm_codes.specs.Code.{text_of, IsInRange}
 use Rattle.rtm_codes.proofs.Written.{Spells-text_of, length-spelled}
-use Rattle.rtm_items.specs.View.{DeckView}
-use Rattle.rtm_items.specs.WellFormed.{is_well_formed}
-use Rattle.rtm_operands.specs.Name.{trimmed, is_padded_name}
-use Rattle.rtm_operands.specs.declared.value.Res.{Res}
-use Rattle.rtm_operands.specs.declared.value.Res.TheVariants as res
-use Rattle.rtm_operands.proofs.Names.{padded_parts, length-name}
+use Rattle.rtm_deck_items.specs.View.{DeckView}
+use Rattle.rtm_deck_items.specs.WellFormed.{is_well_formed}
+use Rattle.rtm_deck_operands.specs.Name.{trimmed_text, is_padded_name}
+use Rattle.rtm_deck_operands.specs.declared.value.Res.{Res}
+use Rattle.rtm_deck_operands.specs.declared.value.Res.TheVariants as res
+use Rattle.rtm_deck_operands.proofs.Names.{padded_parts, length-name}
 use Rattle.rtm_model.specs.declared.block.Place.{Place}
 use Rattle.rtm_model.specs.declared.entry.Class.{Class}
 use Rattle.rtm_model.specs.declared.entry.Class.TheVariants as class
@@ -30,7 +30,7 @@ use Rattle.rtm_model.specs.declared.reg.Kind.TheVariants as kind
 use Rattle.rtm_model.specs.Applies.{IsMark}
 use Rattle.rtm_model.specs.Soundness.{IsPlace}
 use Rattle.rtm_model.specs.Fits.{Fits, WhatFits, VerdictFits}
-use Rattle.rtm_items.proofs.FormFacts.{limits}
+use Rattle.rtm_deck_items.proofs.FormFacts.{limits}
 use Rattle.rtm_trace.specs.Text.{unit_text, place_text, reason_text, reason_digits, flag_text, mark_text, kind_text, class_text, res_text, fate_text, posted_text, verdict_text, what_text, entry_text, line_text}
 use Rattle.rtm_trace.specs.Words.{is_inner}
 use Rattle.rtm_trace.proofs.Cuts.{plain, lacks, test_append, each_test}
@@ -122,11 +122,11 @@ mark_written mark h =
 blank_written : Written (codes " ") 1
 blank_written = literal (codes " ") 1 refl refl
 
-name_short : (name : List ℕ) → is_padded_name name ≡ true → length (trimmed name) ≤ 8
-name_short name h = (length-name (trimmed name) (padded_parts name h).name).1
+name_short : (name : List ℕ) → is_padded_name name ≡ true → length (trimmed_text name) ≤ 8
+name_short name h = (length-name (trimmed_text name) (padded_parts name h).name).1
 
-name_written : (name : List ℕ) → is_padded_name name ≡ true → Written (trimmed name) 8
-name_written name h = word (trimmed name) 8 (plain_name name h) (name_short name h)
+name_written : (name : List ℕ) → is_padded_name name ≡ true → Written (trimmed_text name) 8
+name_written name h = word (trimmed_text name) 8 (plain_name name h) (name_short name h)
 
 module _ (d : DeckView) (w : IsTrue (is_well_formed d)) where
   unit_written : (u : ℕ) → u ≤ length d.units → Written (unit_text d u) 8
@@ -146,7 +146,7 @@ module _ (d : DeckView) (w : IsTrue (is_well_formed d)) where
       let small = op_small d w place h in
       let op = number 5 place.op (omega arith) (omega (arith, small)) (omega (arith, small)) in
       subst (λ (text : List ℕ). Written text 14) (sym (place_named d w place f))
-      (join (trimmed f.program.name) (46 ∷ decimal place.op) 8 6 (name_written f.program.name f.name)
+      (join (trimmed_text f.program.name) (46 ∷ decimal place.op) 8 6 (name_written f.program.name f.name)
       (join (46 ∷ []) (decimal place.op) 1 5 (literal (46 ∷ []) 1 refl refl) op))
 
   verdict_written : (verdict : Verdict) → VerdictFits d verdict → Written (verdict_text d verdict) 20

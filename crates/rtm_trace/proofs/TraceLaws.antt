@@ -5,8 +5,8 @@ use Rattle.std.specs.List.{AllByRecursion, onto_first}
 use Rattle.std.proofs.lemmas.Bool.{cases_lt, and_parts, not-true, eqb-true}
 use Rattle.std.proofs.lemmas.Option.{slice_get_past, slice_get_within, same_Some}
 use Rattle.std.proofs.lemmas.Slice.Eq.{bytes_eq-Decides}
-use Rattle.rtm_items.specs.View.{DeckView}
-use Rattle.rtm_items.specs.WellFormed.{is_well_formed}
+use Rattle.rtm_deck_items.specs.View.{DeckView}
+use Rattle.rtm_deck_items.specs.WellFormed.{is_well_formed}
 use Rattle.rtm_model.specs.declared.entry.End.{End}
 use Rattle.rtm_model.specs.declared.entry.End.TheVariants.{Ended, Stalled, Limit}
 use Rattle.rtm_model.specs.declared.entry.Entry.{Entry}
@@ -15,7 +15,7 @@ use Rattle.rtm_trace.specs.Text.{entry_text, line_text, lines_text, end_line, tr
 use Rattle.rtm_trace.specs.View.{TraceView}
 use Rattle.rtm_trace.specs.Lines.{IsTraceOf, text_lines, first_line, IsEntryLine, IsEndLine, HasEnd, IsBadLine, IsFirstBadLine}
 use Rattle.rtm_trace.specs.Words.{end_in}
-use Rattle.rtm_trace.specs.Reading.{entry_on, ended, read_line, read_on, read_lines}
+use Rattle.rtm_trace.specs.Reading.{entry_on, trace_at_end, read_line, read_on, read_lines}
 use Rattle.rtm_trace.proofs.Cuts.{lacks}
 use Rattle.rtm_trace.proofs.Confirmed.{entry_found, found_entry, none_found, end_found, found_end, no_end, entry_is_no_end, entry_no_end}
 use Rattle.rtm_trace.proofs.Shapes.{line_written, written_lacks_feed}
@@ -136,7 +136,7 @@ few_entries d es end =
 
 -- Reading on.
 
-read_end : (entries : List Entry) (o : Option End) (found : Option Entry) (lines : List (List ℕ)) (others : Entry → Result TraceView ℕ) (end : End) → o ≡ Some end → read_line entries o found lines others ≡ ended entries end lines
+read_end : (entries : List Entry) (o : Option End) (found : Option Entry) (lines : List (List ℕ)) (others : Entry → Result TraceView ℕ) (end : End) → o ≡ Some end → read_line entries o found lines others ≡ trace_at_end entries end lines
 read_end entries o found lines others end e = rw e refl
 
 read_entry : (entries : List Entry) (o : Option End) (found : Option Entry) (lines : List (List ℕ)) (others : Entry → Result TraceView ℕ) (e : Entry) → o ≡ None → found ≡ Some e → read_line entries o found lines others ≡ others e
@@ -197,7 +197,7 @@ module _ (d : DeckView) (w : IsTrue (is_well_formed d)) where
     lines : rest ≡ entry_lines d (length before) more ++ end_line t.end ∷ []
     entries : t.entries ≡ before ++ more
 
-  found_end_line : (before : List Entry) (end : End) (line : List ℕ) (lines : List (List ℕ)) (t : TraceView) → line ≡ end_line end → ended before end lines ≡ Ok t → Found before (line ∷ lines) t
+  found_end_line : (before : List Entry) (end : End) (line : List ℕ) (lines : List (List ℕ)) (t : TraceView) → line ≡ end_line end → trace_at_end before end lines ≡ Ok t → Found before (line ∷ lines) t
   unfolding entry_lines
   found_end_line before end line [] t e h = record {
     more = [];
@@ -303,7 +303,7 @@ module _ (d : DeckView) (w : IsTrue (is_well_formed d)) where
       (λ h. entry_is_no_end d w (length before) e h.0 small (sym own ∙ h.1)))
 
   ended_bad : (all : List (List ℕ)) (before : List Entry) (end : End) (line : List ℕ) (lines : List (List ℕ)) (number : ℕ) → Reached d all (suc (length before)) (line ∷ lines) → line ≡ end_line end
-      → ended before end lines ≡ Err number → IsFirst all number
+      → trace_at_end before end lines ≡ Err number → IsFirst all number
   ended_bad all before end line [] number r e h = absurd cc
   ended_bad all before end line (other ∷ lines) number r e h =
       let same : length before + 3 ≡ number = cc in
@@ -385,7 +385,7 @@ module _ (d : DeckView) (w : IsTrue (is_well_formed d)) where
   ]
 
   ended_good : (all : List (List ℕ)) (before : List Entry) (end : End) (line : List ℕ) (lines : List (List ℕ)) (t : TraceView) → Reached d all (suc (length before)) (line ∷ lines) → line ≡ end_line end
-      → ended before end lines ≡ Ok t → (k : ℕ) → IsBadLine d all k → ⊥
+      → trace_at_end before end lines ≡ Ok t → (k : ℕ) → IsBadLine d all k → ⊥
   ended_good all before end line [] t r e h = end_good all (length before) end line r e
   ended_good all before end line (other ∷ lines) t r e h = absurd cc
 

@@ -1,6 +1,6 @@
 -- What the reader answers.
 use Rattle.std.specs.Prelude.{◌≡◌, ℕ, List, Result, Ok, Err}
-use Rattle.rtm_items.specs.View.{DeckView}
+use Rattle.rtm_deck_items.specs.View.{DeckView}
 use Rattle.rtm_trace.specs.declared.fault.TraceFault.{TraceFault}
 use Rattle.rtm_trace.specs.declared.fault.TraceFault.TheVariants.{Memory, BadLine}
 use Rattle.rtm_trace.specs.Lines.{IsFirstBadLine}

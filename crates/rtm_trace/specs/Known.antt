@@ -1,7 +1,7 @@
 -- What lines said that were read lately. This keeps the reader from reading anew what it knows: nobody has to believe it.
 use Rattle.std.specs.Prelude.{◌≡◌, ◌≤◌, ℕ, List, ◌++◌, Option, IfSome, codes, decimal, length}
 use Rattle.std.specs.List.{AllByRecursion}
-use Rattle.rtm_items.specs.View.{DeckView}
+use Rattle.rtm_deck_items.specs.View.{DeckView}
 use Rattle.rtm_model.specs.declared.entry.What.{What}
 use Rattle.rtm_model.specs.Fits.{WhatFits}
 use Rattle.rtm_trace.specs.declared.known.Known.{Known}

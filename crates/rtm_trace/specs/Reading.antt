@@ -4,8 +4,8 @@ use Rattle.std.specs.Prelude.{ℕ, ◌+◌, Bool, true, ◌&&◌, nat_lt, nat_le
 use Rattle.rtm_codes.specs.declared.code.Code.{Code}
 use Rattle.rtm_codes.specs.Code.{in_range}
 use Rattle.rtm_codes.specs.Reading.{code_in}
-use Rattle.rtm_items.specs.Reading.{lines_of}
-use Rattle.rtm_items.specs.View.{DeckView}
+use Rattle.rtm_deck_items.specs.Reading.{lines_of}
+use Rattle.rtm_deck_items.specs.View.{DeckView}
 use Rattle.rtm_model.specs.declared.block.Place.{Place}
 use Rattle.rtm_model.specs.declared.entry.End.{End}
 use Rattle.rtm_model.specs.declared.entry.Entry.{Entry}
@@ -20,16 +20,16 @@ use Rattle.rtm_trace.specs.declared.form.Form.TheVariants as form
 use Rattle.rtm_trace.specs.Text.{line_text}
 use Rattle.rtm_trace.specs.Lines.{first_line}
 use Rattle.rtm_trace.specs.View.{TraceView}
-use Rattle.rtm_trace.specs.Words.{word_of, rest_of, before, behind, number_in, NamesView, names_of, named, kind_in, class_in, res_in, fate_in, form_in, end_in}
+use Rattle.rtm_trace.specs.Words.{word_of, rest_of, before, behind, number_in, NamesView, names_of, number_of_name, kind_in, class_in, res_in, fate_in, form_in, end_in}
 
 -- an asterisk is the master, whose number is the number of units
 abbrev pub unit_in : NamesView → ℕ → List ℕ → Option ℕ
-unit_in names count word = if bytes_eq word (codes "*") then Some count else named names.units word
+unit_in names count word = if bytes_eq word (codes "*") then Some count else number_of_name names.units word
 
 abbrev pub place_in : NamesView → List ℕ → Option Place
 place_in names word = option_and_then
     (λ prog. option_map (λ op. record { prog = prog; op = op }) (number_in 10 65536 (behind 46 word)))
-    (named names.programs (before 46 word))
+    (number_of_name names.programs (before 46 word))
 
 -- an index of 32 bits
 abbrev pub index_in : List ℕ → Option ℕ
@@ -47,8 +47,8 @@ abbrev pub reason_in : List ℕ → Option ℕ
 reason_in word =
     if bytes_eq (before 61 word) (codes "REASON") then number_in 16 4294967296 (behind 61 word) else None
 
-abbrev pub flagged : Code → Option ℕ → List ℕ → Mark
-flagged code reason line = let perc = behind_flag (codes "CLUP") line in record {
+abbrev pub mark_of_flags : Code → Option ℕ → List ℕ → Mark
+mark_of_flags code reason line = let perc = behind_flag (codes "CLUP") line in record {
   code = code;
   reason = reason;
   clup = flag_in (codes "CLUP") line;
@@ -56,22 +56,22 @@ flagged code reason line = let perc = behind_flag (codes "CLUP") line in record 
   staf = flag_in (codes "STAF") (behind_flag (codes "PERC") perc);
 }
 
-abbrev pub reasoned_by : Code → Option ℕ → List ℕ → Mark
-reasoned_by code None line = flagged code None line
-reasoned_by code (Some reason) line = flagged code (Some reason) (rest_of line)
+abbrev pub mark_behind_reason : Code → Option ℕ → List ℕ → Mark
+mark_behind_reason code None line = mark_of_flags code None line
+mark_behind_reason code (Some reason) line = mark_of_flags code (Some reason) (rest_of line)
 
-abbrev pub reasoned : Code → List ℕ → Mark
-reasoned code line = reasoned_by code (reason_in (word_of line)) line
+abbrev pub mark_behind_code : Code → List ℕ → Mark
+mark_behind_code code line = mark_behind_reason code (reason_in (word_of line)) line
 
 abbrev pub mark_in : List ℕ → Option Mark
-mark_in line = option_map (λ code. reasoned code (rest_of line)) (code_in (word_of line))
+mark_in line = option_map (λ code. mark_behind_code code (rest_of line)) (code_in (word_of line))
 
 -- the fate that a word tells behind that key
-abbrev pub posted_in : List ℕ → List ℕ → Option Fate
-posted_in key word = if bytes_eq (before 61 word) key then fate_in (behind 61 word) else None
+abbrev pub fate_behind : List ℕ → List ℕ → Option Fate
+fate_behind key word = if bytes_eq (before 61 word) key then fate_in (behind 61 word) else None
 
-abbrev pub behind_posted : List ℕ → List ℕ → List ℕ
-behind_posted key line = if is_some (posted_in key (word_of line)) then rest_of line else line
+abbrev pub behind_fate : List ℕ → List ℕ → List ℕ
+behind_fate key line = if is_some (fate_behind key (word_of line)) then rest_of line else line
 
 abbrev pub plain_verdict : List ℕ → Option Verdict
 plain_verdict word =
@@ -138,28 +138,28 @@ release_in names count line = option_and_then
 
 abbrev pub done_in : List ℕ → Option What
 done_in line = option_map
-    (λ code. Done code (posted_in (codes "TASK") (word_of (rest_of line))) (posted_in (codes "STEP") (word_of (behind_posted (codes "TASK") (rest_of line)))))
+    (λ code. Done code (fate_behind (codes "TASK") (word_of (rest_of line))) (fate_behind (codes "STEP") (word_of (behind_fate (codes "TASK") (rest_of line)))))
     (code_in (word_of line))
 
 abbrev pub purge_in : NamesView → ℕ → List ℕ → Option What
 purge_in names count line = option_map (λ unit. Purge unit) (unit_in names count (word_of line))
 
 -- what an entry of that form says
-abbrev pub said_as : NamesView → ℕ → Form → List ℕ → Option What
-said_as names count form.Exec line = exec_in names line
-said_as names count form.Error line = error_in names line
-said_as names count form.Land line = land_in line
-said_as names count form.Enter line = enter_in line
-said_as names count form.Leave line = leave_in names line
-said_as names count form.Arrive line = arrive_in line
-said_as names count form.Begin line = begin_in line
-said_as names count form.Release line = release_in names count line
-said_as names count form.Done line = done_in line
-said_as names count form.Purge line = purge_in names count line
-said_as names count form.MemEnd line = Some MemEnd
+abbrev pub what_as : NamesView → ℕ → Form → List ℕ → Option What
+what_as names count form.Exec line = exec_in names line
+what_as names count form.Error line = error_in names line
+what_as names count form.Land line = land_in line
+what_as names count form.Enter line = enter_in line
+what_as names count form.Leave line = leave_in names line
+what_as names count form.Arrive line = arrive_in line
+what_as names count form.Begin line = begin_in line
+what_as names count form.Release line = release_in names count line
+what_as names count form.Done line = done_in line
+what_as names count form.Purge line = purge_in names count line
+what_as names count form.MemEnd line = Some MemEnd
 
 abbrev pub what_in : NamesView → ℕ → List ℕ → Option What
-what_in names count line = option_and_then (λ form. said_as names count form (rest_of line)) (form_in (word_of line))
+what_in names count line = option_and_then (λ form. what_as names count form (rest_of line)) (form_in (word_of line))
 
 -- the entry behind the index
 abbrev pub entry_in : NamesView → ℕ → List ℕ → Option Entry
@@ -204,21 +204,21 @@ abbrev pub fits : DeckView → Entry → Bool
 fits d e = nat_le e.unit (length d.units) && what_fits d e.what
 
 -- the entry, where it fits and its line is this one
-abbrev pub confirmed : DeckView → ℕ → List ℕ → Entry → Option Entry
-confirmed d n line e = if fits d e && bytes_eq (line_text d n e) line then Some e else None
+abbrev pub confirmed_entry : DeckView → ℕ → List ℕ → Entry → Option Entry
+confirmed_entry d n line e = if fits d e && bytes_eq (line_text d n e) line then Some e else None
 
 -- the entry of that index whose line it is
 abbrev pub entry_on : DeckView → ℕ → List ℕ → Option Entry
-entry_on d n line = option_and_then (confirmed d n line) (line_in (names_of d) (length d.units) line)
+entry_on d n line = option_and_then (confirmed_entry d n line) (line_in (names_of d) (length d.units) line)
 
 -- a trace that ends; a line behind the end is bad
-abbrev pub ended : List Entry → End → List (List ℕ) → Result TraceView ℕ
-ended entries end [] = Ok (record { entries = entries; end = end })
-ended entries end (line ∷ lines) = Err (length entries + 3)
+abbrev pub trace_at_end : List Entry → End → List (List ℕ) → Result TraceView ℕ
+trace_at_end entries end [] = Ok (record { entries = entries; end = end })
+trace_at_end entries end (line ∷ lines) = Err (length entries + 3)
 
 -- how it goes on behind the lines of some entries, where the next line is that end or that entry's, or else neither
 abbrev pub read_line : List Entry → Option End → Option Entry → List (List ℕ) → (Entry → Result TraceView ℕ) → Result TraceView ℕ
-read_line entries (Some end) found lines others = ended entries end lines
+read_line entries (Some end) found lines others = trace_at_end entries end lines
 read_line entries None (Some e) lines others = others e
 read_line entries None None lines others = Err (length entries + 2)
 

@@ -2,11 +2,11 @@
 use Rattle.std.specs.Prelude.{ℕ, ◌+◌, ◌/◌, ◌%◌, Bool, ◌==◌, if◌then◌else◌, List, [], ◌∷◌, ◌++◌, length, map, Option, Some, None, slice_get, codes, decimal}
 use Rattle.rtm_codes.specs.declared.code.Code.{Code}
 use Rattle.rtm_codes.specs.Code.{text_of, digit_char}
-use Rattle.rtm_items.specs.declared.deck.Unit.{Unit as UnitCard}
-use Rattle.rtm_operands.specs.declared.value.Res.{Res}
-use Rattle.rtm_operands.specs.declared.value.Res.TheVariants as res
-use Rattle.rtm_operands.specs.Name.{trimmed}
-use Rattle.rtm_items.specs.View.{ProgramView, DeckView}
+use Rattle.rtm_deck_items.specs.declared.deck.Unit.{Unit as UnitCard}
+use Rattle.rtm_deck_operands.specs.declared.value.Res.{Res}
+use Rattle.rtm_deck_operands.specs.declared.value.Res.TheVariants as res
+use Rattle.rtm_deck_operands.specs.Name.{trimmed_text}
+use Rattle.rtm_deck_items.specs.View.{ProgramView, DeckView}
 use Rattle.rtm_model.specs.declared.block.Place.{Place}
 use Rattle.rtm_model.specs.declared.entry.Class.{Class}
 use Rattle.rtm_model.specs.declared.entry.Class.TheVariants as class
@@ -26,7 +26,7 @@ use Rattle.rtm_model.specs.declared.reg.Kind.TheVariants as kind
 -- a unit's name without its padding, an asterisk for the master; nothing where there is no such unit
 abbrev pub name_in : Option UnitCard → List ℕ
 name_in None = []
-name_in (Some unit) = trimmed unit.name
+name_in (Some unit) = trimmed_text unit.name
 
 abbrev pub unit_text : DeckView → ℕ → List ℕ
 unit_text d u = if u == length d.units then 42 ∷ [] else name_in (slice_get d.units u)
@@ -34,7 +34,7 @@ unit_text d u = if u == length d.units then 42 ∷ [] else name_in (slice_get d.
 -- a program's name without its padding; nothing where there is no such program
 abbrev pub program_in : Option ProgramView → List ℕ
 program_in None = []
-program_in (Some program) = trimmed program.name
+program_in (Some program) = trimmed_text program.name
 
 -- program, point, number of the operation
 abbrev pub place_text : DeckView → Place → List ℕ

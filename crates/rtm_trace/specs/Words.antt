@@ -2,10 +2,10 @@
 -- has to believe them.
 use Rattle.std.specs.Prelude.{ℕ, ◌+◌, ◌-◌, ◌*◌, Bool, not, ◌==◌, nat_lt, if◌then◌else◌, List, [], ◌∷◌, ◌++◌, Option, Some, None, option_and_then, position, bytes_eq, codes, map}
 use Rattle.std.specs.List.{list_any}
-use Rattle.rtm_items.specs.View.{DeckView}
-use Rattle.rtm_operands.specs.declared.value.Res.{Res}
-use Rattle.rtm_operands.specs.declared.value.Res.TheVariants as res
-use Rattle.rtm_operands.specs.Reading.{name_in}
+use Rattle.rtm_deck_items.specs.View.{DeckView}
+use Rattle.rtm_deck_operands.specs.declared.value.Res.{Res}
+use Rattle.rtm_deck_operands.specs.declared.value.Res.TheVariants as res
+use Rattle.rtm_deck_operands.specs.Reading.{name_in}
 use Rattle.rtm_model.specs.declared.entry.Class.{Class}
 use Rattle.rtm_model.specs.declared.entry.Class.TheVariants as class
 use Rattle.rtm_model.specs.declared.entry.End.{End}
@@ -92,8 +92,8 @@ abbrev pub narrow : ℕ → Option ℕ
 narrow n = if nat_lt n 65536 then Some n else None
 
 -- the number of the program or unit of that name
-abbrev pub named : List (List ℕ) → List ℕ → Option ℕ
-named names word = option_and_then (λ name. option_and_then narrow (position (bytes_eq name) names)) (name_in word)
+abbrev pub number_of_name : List (List ℕ) → List ℕ → Option ℕ
+number_of_name names word = option_and_then (λ name. option_and_then narrow (position (bytes_eq name) names)) (name_in word)
 
 abbrev pub kind_in : List ℕ → Option Kind
 kind_in word =

@@ -2,7 +2,7 @@
 
 ghost use Rattle.std.specs.Prelude.{◌≡◌};
 ghost use Rattle.rtm_trace.specs.Words.{word_of};
-ghost use Rattle.rtm_trace.specs.Reading.{unit_in, place_in, index_in, flag_in, behind_flag, reason_in, flagged, reasoned, mark_in, posted_in, behind_posted, plain_verdict, verdict_in, behind_verdict, exec_in, error_in, land_in, enter_in, leave_in, arrive_in, begin_in, release_in, done_in, purge_in, said_as, what_in, entry_in, line_in};
+ghost use Rattle.rtm_trace.specs.Reading.{unit_in, place_in, index_in, flag_in, behind_flag, reason_in, mark_of_flags, mark_behind_code, mark_in, fate_behind, behind_fate, plain_verdict, verdict_in, behind_verdict, exec_in, error_in, land_in, enter_in, leave_in, arrive_in, begin_in, release_in, done_in, purge_in, what_as, what_in, entry_in, line_in};
 
 use crate::form::Form;
 use crate::names::Names;
@@ -68,8 +68,8 @@ fn reason_in(word: &[u8]) -> Option<u32>
     Some(reason as u32)
 }
 
-fn flagged(code: Code, reason: Option<u32>, line: &[u8]) -> Mark
-    ensures { result ≡ flagged code reason line.now }
+fn mark_of_flags(code: Code, reason: Option<u32>, line: &[u8]) -> Mark
+    ensures { result ≡ mark_of_flags code reason line.now }
 {
     let (clup, rest) = cut_flag(line, b"CLUP");
     let (perc, rest) = cut_flag(rest, b"PERC");
@@ -83,13 +83,13 @@ fn flagged(code: Code, reason: Option<u32>, line: &[u8]) -> Mark
     }
 }
 
-fn reasoned(code: Code, line: &[u8]) -> Mark
-    ensures { result ≡ reasoned code line.now }
+fn mark_behind_code(code: Code, line: &[u8]) -> Mark
+    ensures { result ≡ mark_behind_code code line.now }
 {
     let (word, rest) = cut_word(line);
     match reason_in(word) {
-        None => flagged(code, None, line),
-        Some(reason) => flagged(code, Some(reason), rest),
+        None => mark_of_flags(code, None, line),
+        Some(reason) => mark_of_flags(code, Some(reason), rest),
     }
 }
 
@@ -98,12 +98,12 @@ fn mark_in(line: &[u8]) -> Option<Mark>
 {
     let (word, rest) = cut_word(line);
     let code = read_code(word)?;
-    Some(reasoned(code, rest))
+    Some(mark_behind_code(code, rest))
 }
 
 // The fate that a word tells behind the key.
-fn posted_in(key: &[u8], word: &[u8]) -> Option<Fate>
-    ensures { result ≡ posted_in key.now word.now }
+fn fate_behind(key: &[u8], word: &[u8]) -> Option<Fate>
+    ensures { result ≡ fate_behind key.now word.now }
 {
     let (own, fate) = cut_at(word, b'=');
     if own == key { fate_in(fate) } else { None }
@@ -111,11 +111,11 @@ fn posted_in(key: &[u8], word: &[u8]) -> Option<Fate>
 
 // The same where the word stands first, and what stands behind it if it does.
 fn cut_posted<'a>(key: &[u8], line: &'a [u8]) -> (Option<Fate>, &'a [u8])
-    ensures fate { result.0 ≡ posted_in key.now (word_of line.now) }
-    ensures rest { result.1.now ≡ behind_posted key.now line.now }
+    ensures fate { result.0 ≡ fate_behind key.now (word_of line.now) }
+    ensures rest { result.1.now ≡ behind_fate key.now line.now }
 {
     let (word, rest) = cut_word(line);
-    let fate = posted_in(key, word);
+    let fate = fate_behind(key, word);
     if fate.is_some() {
         (fate, rest)
     } else {
@@ -283,8 +283,8 @@ fn purge_in(names: &Names, count: u16, line: &[u8]) -> Option<What>
     Some(What::Purge { unit })
 }
 
-fn said_as(names: &Names, count: u16, form: Form, line: &[u8]) -> Option<What>
-    ensures { result ≡ said_as names.now count form line.now }
+fn what_as(names: &Names, count: u16, form: Form, line: &[u8]) -> Option<What>
+    ensures { result ≡ what_as names.now count form line.now }
 {
     match form {
         Form::Exec => exec_in(names, line),
@@ -307,7 +307,7 @@ pub(crate) fn what_in(names: &Names, count: u16, line: &[u8]) -> Option<What>
 {
     let (word, rest) = cut_word(line);
     let form = form_in(word)?;
-    said_as(names, count, form, rest)
+    what_as(names, count, form, rest)
 }
 
 // The entry behind the index.

@@ -4,7 +4,7 @@ ghost use Rattle.std.specs.Prelude.{◌≡◌};
 ghost use Rattle.rtm_trace.specs.Reading.{is_place, is_mark, verdict_fits, what_fits, fits};
 
 use rtm_codes::is_in_range;
-use rtm_items::Deck;
+use rtm_deck_items::Deck;
 use rtm_model::{Entry, Mark, Place, Verdict, What};
 
 fn is_place(deck: &Deck, place: Place) -> bool

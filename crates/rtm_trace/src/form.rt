@@ -1,3 +1,5 @@
+//! The forms of a trace's entries.
+
 /// The forms of entries, by the words that they begin with.
 #[derive(Clone, Copy)]
 pub(crate) enum Form {

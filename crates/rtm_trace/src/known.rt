@@ -2,7 +2,7 @@
 //! the index and the unit of each line: what stands behind these is known by its bytes, and needn't be read anew.
 
 ghost use Rattle.std.specs.Prelude.{◌≡◌, ◌<◌, ◌++◌, IfOk, IfSome};
-ghost use Rattle.rtm_items.specs.View.{DeckView};
+ghost use Rattle.rtm_deck_items.specs.View.{DeckView};
 ghost use Rattle.rtm_trace.specs.Known.{AreKnown, IsBehindUnit, IsSaid, index_part};
 ghost use Rattle.rtm_trace.specs.Words.{names_of};
 
@@ -11,7 +11,7 @@ use crate::names::Names;
 use crate::push;
 use crate::word::cut_word;
 use rtm_codes::NoMemory;
-use rtm_items::Deck;
+use rtm_deck_items::Deck;
 use rtm_model::What;
 
 /// What stands behind the unit of a line that was read, and what it says.
@@ -21,7 +21,7 @@ pub(crate) struct Known<'a> {
     what: What,
 }
 
-/// How many are remembered.
+// How many are remembered.
 const PLACES: usize = 256;
 
 /// What was read lately, each at the place that its bytes give.

@@ -2,8 +2,8 @@
 
 ghost use Rattle.std.specs.Prelude.{◌≡◌, ◌⊎◌, ℕ, ◌<◌, ◌≤◌, ◌^◌, List, length, IsTrue};
 ghost use Rattle.std.specs.List.{AllByRecursion};
-ghost use Rattle.rtm_items.specs.View.{DeckView};
-ghost use Rattle.rtm_items.specs.WellFormed.{is_well_formed};
+ghost use Rattle.rtm_deck_items.specs.View.{DeckView};
+ghost use Rattle.rtm_deck_items.specs.WellFormed.{is_well_formed};
 ghost use Rattle.rtm_model.specs.declared.entry.End.{End};
 ghost use Rattle.rtm_model.specs.declared.entry.Entry.{Entry};
 ghost use Rattle.rtm_model.specs.Fits.{Fits, IsIndex};

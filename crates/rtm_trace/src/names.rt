@@ -1,12 +1,12 @@
 //! Looking up what a line names.
 
 ghost use Rattle.std.specs.Prelude.{◌≡◌, [], map, OnOk, IfOk};
-ghost use Rattle.rtm_trace.specs.Words.{put_name, put_names, names_of, narrow, named};
+ghost use Rattle.rtm_trace.specs.Words.{put_name, put_names, names_of, narrow, number_of_name};
 
 use indexmap::IndexSet;
 use rtm_codes::NoMemory;
-use rtm_items::{Deck, Name, Program, Unit};
-use rtm_operands::name_of;
+use rtm_deck_items::{Deck, Name, Program, Unit};
+use rtm_deck_operands::name_of;
 use std::alloc::Global;
 use std::marker::Model;
 
@@ -60,8 +60,8 @@ fn narrow(n: usize) -> Option<u16>
 }
 
 // The number of the name.
-fn named(names: &IndexSet<Name>, word: &[u8]) -> Option<u16>
-    ensures { result ≡ named names.now.keys word.now }
+fn number_of_name(names: &IndexSet<Name>, word: &[u8]) -> Option<u16>
+    ensures { result ≡ number_of_name names.now.keys word.now }
 {
     let name = name_of(word)?;
     let index = names.get_index_of(&name)?;
@@ -80,15 +80,15 @@ impl Names {
 
     /// The number of the program of that name.
     pub(crate) fn program(&self, word: &[u8]) -> Option<u16>
-        ensures { result ≡ named self.now.programs word.now }
+        ensures { result ≡ number_of_name self.now.programs word.now }
     {
-        named(&self.programs, word)
+        number_of_name(&self.programs, word)
     }
 
     /// The number of the unit of that name.
     pub(crate) fn unit(&self, word: &[u8]) -> Option<u16>
-        ensures { result ≡ named self.now.units word.now }
+        ensures { result ≡ number_of_name self.now.units word.now }
     {
-        named(&self.units, word)
+        number_of_name(&self.units, word)
     }
 }

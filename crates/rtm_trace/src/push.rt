@@ -2,12 +2,12 @@
 
 ghost use Rattle.std.specs.Prelude.{◌≡◌, ◌++◌, ◌<◌, ◌+◌, length, OnOk, decimal};
 ghost use Rattle.rtm_codes.specs.Code.{IsInRange, text_of, digit_char};
-ghost use Rattle.rtm_operands.specs.Name.{trimmed};
+ghost use Rattle.rtm_deck_operands.specs.Name.{trimmed_text};
 ghost use Rattle.rtm_trace.specs.Text.{reason_digits, flag_text};
 
 use itoa::Buffer;
 use rtm_codes::{Code, NoMemory, code_text};
-use rtm_items::Name;
+use rtm_deck_items::Name;
 
 /// Puts the bytes at the end.
 pub fn bytes(out: &mut Vec<u8>, text: &[u8]) -> Result<(), NoMemory>
@@ -40,7 +40,7 @@ pub fn flag(out: &mut Vec<u8>, flag: bool, text: &[u8]) -> Result<(), NoMemory>
     if flag { bytes(out, text) } else { Ok(()) }
 }
 
-fn hexadecimal(digit: u32) -> u8
+fn hexadecimal_digit(digit: u32) -> u8
     requires { digit < 16 }
     ensures { result ≡ digit_char digit }
 {
@@ -57,21 +57,21 @@ pub fn reason_digits(out: &mut Vec<u8>, n: u32) -> Result<(), NoMemory>
     ensures { OnOk result (out.new.items ≡ out.old.items ++ reason_digits n) }
 {
     let digits = [
-        hexadecimal(n / 268435456 % 16),
-        hexadecimal(n / 16777216 % 16),
-        hexadecimal(n / 1048576 % 16),
-        hexadecimal(n / 65536 % 16),
-        hexadecimal(n / 4096 % 16),
-        hexadecimal(n / 256 % 16),
-        hexadecimal(n / 16 % 16),
-        hexadecimal(n % 16),
+        hexadecimal_digit(n / 268435456 % 16),
+        hexadecimal_digit(n / 16777216 % 16),
+        hexadecimal_digit(n / 1048576 % 16),
+        hexadecimal_digit(n / 65536 % 16),
+        hexadecimal_digit(n / 4096 % 16),
+        hexadecimal_digit(n / 256 % 16),
+        hexadecimal_digit(n / 16 % 16),
+        hexadecimal_digit(n % 16),
     ];
     bytes(out, &digits)
 }
 
 // How many bytes of the field stand before its first blank.
 fn len_of(field: &[u8]) -> usize
-    ensures { result ≡ length (trimmed field.now) }
+    ensures { result ≡ length (trimmed_text field.now) }
 {
     field.iter().take_while(|b| **b != b' ').count()
 }
@@ -79,7 +79,7 @@ fn len_of(field: &[u8]) -> usize
 /// A name without its padding.
 #[tactic(auto, using(crate::proofs::Front::take_front))]
 pub(crate) fn name_text(name: &Name) -> &[u8]
-    ensures { result.now ≡ trimmed name.now }
+    ensures { result.now ≡ trimmed_text name.now }
 {
     let field = &name.0;
     let (text, _blanks) = field.split_at(len_of(field));
@@ -88,7 +88,7 @@ pub(crate) fn name_text(name: &Name) -> &[u8]
 
 /// Puts a name without its padding.
 pub fn name(out: &mut Vec<u8>, name: &Name) -> Result<(), NoMemory>
-    ensures { OnOk result (out.new.items ≡ out.old.items ++ trimmed name.now) }
+    ensures { OnOk result (out.new.items ≡ out.old.items ++ trimmed_text name.now) }
 {
     bytes(out, name_text(name))
 }

@@ -4,7 +4,7 @@ ghost use Rattle.std.specs.Prelude.{◌≡◌, ◌+◌, ◌≤◌, ◌<◌, [], 
 ghost use Rattle.rtm_trace.specs.Answer.{IsFaultOf, IsThatTrace, IsThatLine, Gives};
 ghost use Rattle.rtm_trace.specs.Known.{AreKnown, IsSaid};
 ghost use Rattle.rtm_trace.specs.Lines.{IsTraceOf, IsFirstBadLine, text_lines};
-ghost use Rattle.rtm_trace.specs.Reading.{confirmed, entry_on, ended, read_on, read_lines};
+ghost use Rattle.rtm_trace.specs.Reading.{confirmed_entry, entry_on, trace_at_end, read_on, read_lines};
 ghost use Rattle.rtm_trace.specs.View.{TraceView};
 ghost use Rattle.rtm_trace.specs.Words.{names_of, first_of, after_of};
 
@@ -18,7 +18,7 @@ use crate::text::{push_line, push_what};
 use crate::word::end_in;
 use memchr::memchr;
 use rtm_codes::NoMemory;
-use rtm_items::Deck;
+use rtm_deck_items::Deck;
 use rtm_model::{End, Entry, What};
 use std::alloc::Global;
 use std::marker::Model;
@@ -39,14 +39,14 @@ impl Model for Trace {
 }
 
 // The entry, where it fits and its line is this one.
-fn confirmed(
+fn confirmed_entry(
     deck: &Deck,
     index: u64,
     line: &[u8],
     entry: Entry,
     text: &mut Vec<u8>,
 ) -> Result<Option<Entry>, NoMemory>
-    ensures { IfOk result (λ found. found ≡ confirmed deck.now index line.now entry) }
+    ensures { IfOk result (λ found. found ≡ confirmed_entry deck.now index line.now entry) }
 {
     if !fits(deck, &entry) {
         return Ok(None);
@@ -73,12 +73,17 @@ fn entry_on(
 {
     match line_in(names, deck.unit_count(), line) {
         None => Ok(None),
-        Some(entry) => confirmed(deck, index, line, entry, text),
+        Some(entry) => confirmed_entry(deck, index, line, entry, text),
     }
 }
 
 // What these bytes say behind the unit of a line, where it fits and they are its text.
-fn said(deck: &Deck, bytes: &[u8], what: What, text: &mut Vec<u8>) -> Result<Option<What>, NoMemory>
+fn fitting_what(
+    deck: &Deck,
+    bytes: &[u8],
+    what: What,
+    text: &mut Vec<u8>,
+) -> Result<Option<What>, NoMemory>
     ensures { IfOk result (λ found. IfSome found (IsSaid deck.now bytes.now)) }
 {
     if !what_fits(deck, what) {
@@ -104,7 +109,7 @@ fn read_what(
 {
     match what_in(names, deck.unit_count(), bytes) {
         None => Ok(None),
-        Some(what) => said(deck, bytes, what, text),
+        Some(what) => fitting_what(deck, bytes, what, text),
     }
 }
 
@@ -188,9 +193,9 @@ fn cut_line(text: &[u8]) -> (&[u8], &[u8])
 
 // The trace that ends, or the number of the line behind the end.
 #[tactic(auto, using(crate::proofs::FirstLine::ended_more))]
-fn ended(entries: Vec<Entry>, end: End, rest: &[u8]) -> Result<Trace, TraceFault>
+fn trace_at_end(entries: Vec<Entry>, end: End, rest: &[u8]) -> Result<Trace, TraceFault>
     requires { length entries.items + 3 ≤ 4294967295 }
-    ensures { Gives result (ended entries.items end (text_lines rest.now)) }
+    ensures { Gives result (trace_at_end entries.items end (text_lines rest.now)) }
 {
     if rest.is_empty() {
         Ok(Trace { entries, end })
@@ -212,7 +217,7 @@ fn bad_line(count: usize) -> TraceFault
 }
 
 // The unit of the line behind one of `unit`, where the line before was of `last`: in turns the one after it, else the same.
-fn guessed(last: u16, unit: u16) -> u16 {
+fn guessed_unit(last: u16, unit: u16) -> u16 {
     if unit == last.saturating_add(1) {
         unit.saturating_add(1)
     } else {
@@ -235,13 +240,13 @@ fn read_on(alloc: Global, deck: &Deck, names: &Names, lines: &[u8]) -> Result<Tr
     'lines: while !rest.is_empty() {
         let (line, behind) = cut_line(rest);
         if let Some(end) = end_in(line) {
-            return ended(entries, end, behind);
+            return trace_at_end(entries, end, behind);
         }
         let index = entries.len() as u64;
         match entry_by_parts(deck, names, index, guess, line, &mut text, &mut places)? {
             None => return Err(bad_line(entries.len())),
             Some(entry) => {
-                guess = guessed(last, entry.unit);
+                guess = guessed_unit(last, entry.unit);
                 last = entry.unit;
                 entries.push(entry)?;
             }

@@ -8,7 +8,7 @@ ghost use Rattle.rtm_trace.specs.Text.{unit_text, program_in, land_text, enter_t
 
 use crate::push;
 use rtm_codes::{Code, NoMemory};
-use rtm_items::{Deck, Res};
+use rtm_deck_items::{Deck, Res};
 use rtm_model::{Class, End, Entry, Fate, Kind, Mark, Place, Verdict, What};
 use std::alloc::Global;
 
@@ -312,7 +312,7 @@ pub fn push_entry(out: &mut Vec<u8>, deck: &Deck, entry: &Entry) -> Result<(), N
     push_what(out, deck, entry.what)
 }
 
-// The line of the entry of that index.
+/// The line of the entry of that index.
 pub(crate) fn push_line(
     out: &mut Vec<u8>,
     deck: &Deck,

@@ -39,7 +39,7 @@ fn len_before(word: &[u8], stop: u8) -> usize
 }
 
 // The bytes before that index and those behind it.
-fn parted(bytes: &[u8], at: usize) -> (&[u8], &[u8])
+fn parts_at(bytes: &[u8], at: usize) -> (&[u8], &[u8])
     requires { at ≤ length bytes.now }
     ensures front { result.0.now ≡ take at bytes.now }
     ensures back { result.1.now ≡ drop (at + 1) bytes.now }
@@ -56,7 +56,7 @@ pub(crate) fn cut_word(line: &[u8]) -> (&[u8], &[u8])
     ensures word { result.0.now ≡ word_of line.now }
     ensures rest { result.1.now ≡ rest_of line.now }
 {
-    parted(line, word_len(line))
+    parts_at(line, word_len(line))
 }
 
 /// The parts of a word before and behind the first byte of that kind.
@@ -64,7 +64,7 @@ pub(crate) fn cut_at(word: &[u8], stop: u8) -> (&[u8], &[u8])
     ensures front { result.0.now ≡ before stop word.now }
     ensures back { result.1.now ≡ behind stop word.now }
 {
-    parted(word, len_before(word, stop))
+    parts_at(word, len_before(word, stop))
 }
 
 // What a byte counts as a digit.

@@ -1,6 +1,6 @@
 use Rattle.std.proofs.Common.{◌≤◌, arith, length, refl, subst, sym, ◌∙◌}
 use Rattle.std.specs.Prelude.{IfSome}
-use Rattle.rtm_items.specs.View.{DeckView}
+use Rattle.rtm_deck_items.specs.View.{DeckView}
 use Rattle.rtm_system.specs.Turned.{IsNext}
 use Rattle.rtm_crew.proofs.TurnLemmas.{all_left, all_made, has_end, next_turn}
 use Rattle.rtm_crew.proofs.turns.seq_run.Goals as goal

@@ -1,5 +1,5 @@
 use Rattle.std.proofs.Common.{◌≡◌, sym, subst}
-use Rattle.rtm_items.specs.Spelling.{DeckText}
+use Rattle.rtm_deck_items.specs.Spelling.{DeckText}
 use Rattle.rtm_deck.proofs.Cuts.{cut_facts}
 use Rattle.rtm_deck.proofs.CutLaws.{read-spelled, refused-refusal}
 use Rattle.rtm_deck.proofs.Giving.{gives-value}

@@ -1,12 +1,12 @@
 use Rattle.std.proofs.Common.{◌≡◌, ◌+◌, ◌<◌, ◌++◌, ◌∙◌, ℕ, suc, List, length, ap, map, take, drop, arith}
 use Rattle.std.specs.Prelude.{slice_set, slice_index_or}
-use Rattle.rtm_model.specs.Ending.{Holdings, released_of}
+use Rattle.rtm_model.specs.Ending.{Holdings, owner_after_release}
 use Rattle.rtm_ending.proofs.Births.{map_further}
 use Rattle.rtm_ending.proofs.holds.release_anywhere.Goals as goal
 
 pub loop-lists-preserved : goal.loop-lists-preserved
 loop-lists-preserved c =
-    let f : Holdings → Holdings = released_of c.args.born in
+    let f : Holdings → Holdings = owner_after_release c.args.born in
     let i = c.loop-lists.lists-index in
     let xs = c.args.owners.now in
     let d = c.lists-item.result in

@@ -1,6 +1,6 @@
 use Rattle.std.proofs.Common.{rules, ◌≤◌, ◌<◌, ◌∙◌, length, ap, arith}
 use Rattle.std.specs.Prelude.{slice_set}
-use Rattle.rtm_model.specs.Ending.{Holdings, released}
+use Rattle.rtm_model.specs.Ending.{Holdings, after_release}
 use Rattle.rtm_ending.specs.View.{births_among}
 use Rattle.rtm_ending.proofs.Births.{births_at_index, released_one}
 use Rattle.rtm_ending.proofs.holds.release_newest.Goals as goal
@@ -19,4 +19,4 @@ returns-then-release_newest c =
     let within : i < length xs = omega arith in
     ap (λ (y : Holdings). slice_set xs i y) c.if-release_newest.ensures.lists
     ∙ released_one c.args.born xs i d within (c.if-release_newest.ensures.there (search rules)) few
-    ∙ ap (released c.args.born) c.loop-lists.invariant
+    ∙ ap (after_release c.args.born) c.loop-lists.invariant

@@ -1,6 +1,6 @@
 use Rattle.std.proofs.Common.{◌≡◌, ◌<◌, ◌≤◌, ap, arith, length}
 use Rattle.std.proofs.lemmas.List.{get_or_read, length-set}
-use Rattle.rtm_model.specs.Ending.{no_holdings, held_count, held_by, AreHeldBefore}
+use Rattle.rtm_model.specs.Ending.{no_holdings, held_count, holdings_of, AreHeldBefore}
 use Rattle.rtm_ending.specs.View.{HoldsView}
 use Rattle.rtm_ending.proofs.Births.{kept_got}
 use Rattle.rtm_ending.proofs.holds.Holds.get.Goals as goal
@@ -10,7 +10,7 @@ put_in-requires-clause-room c =
     let items = c.self.inside.owners.items in
     let units : c.self.inside.units ≡ c.args.self.now.units = ap (λ (v : HoldsView). v.units) c.self.view_is in
     let within : c.args.holding.owner < length items = omega (arith, c.self.invariant.all, c.requires.owner) in
-    let same : c.index.result.now ≡ held_by c.args.holding.owner items = get_or_read items c.args.holding.owner c.index.result.now within c.index.ensures no_holdings in
+    let same : c.index.result.now ≡ holdings_of c.args.holding.owner items = get_or_read items c.args.holding.owner c.index.result.now within c.index.ensures no_holdings in
     omega (arith, ap held_count same, c.count.ensures.value, c.count.ensures.most)
 
 pub invariant_of-self : goal.invariant_of-self

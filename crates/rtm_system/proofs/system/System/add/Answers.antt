@@ -1,5 +1,5 @@
 use Rattle.std.proofs.Common.{◌≡◌, ◌<◌, ◌≤◌, arith, length, subst, sym}
-use Rattle.rtm_items.proofs.FormFacts.{Limits, limits}
+use Rattle.rtm_deck_items.proofs.FormFacts.{Limits, limits}
 use Rattle.rtm_model.specs.Births.{world}
 use Rattle.rtm_model.specs.Legal.{MayFollow}
 use Rattle.rtm_system.specs.View.{SystemView}
@@ -15,7 +15,7 @@ pub apply-requires-clause-follows : goal.apply-requires-clause-follows
 apply-requires-clause-follows c =
     let follows = subst (λ (v : SystemView). MayFollow v.deck (world v.deck v.trace) (length v.trace) c.args.entry c.args.entry.what) (sym c.self.view_is) c.requires.follows in
     let count : c.len-index.result ≡ length c.self.inside.trace.items = omega arith in
-    can_follow c.self.inside.deck c.self.inside.machine c.self.inside.trace.items _ _ c.len-index.result c.args.entry c.keeps_its_form.ensures.well_formed c.self.invariant count follows
+    can_follow c.self.inside.deck c.self.inside.world c.self.inside.trace.items _ _ c.len-index.result c.args.entry c.keeps_its_form.ensures.well_formed c.self.invariant count follows
 
 pub invariant_of-self : goal.invariant_of-self
 invariant_of-self c =
@@ -23,4 +23,4 @@ invariant_of-self c =
     let follows = subst (λ (v : SystemView). MayFollow v.deck (world v.deck v.trace) (length v.trace) c.args.entry c.args.entry.what) (sym c.self.view_is) c.requires.follows in
     let last = subst (λ (v : SystemView). c.args.last ≤ length v.deck.units) (sym c.self.view_is) c.requires.last in
     let count : c.len-index.result ≡ length c.self.inside.trace.items = omega arith in
-    adds c.self.inside.deck c.self.inside.machine _ c.self.inside.trace.items _ _ _ _ c.args.last c.len-index.result c.args.entry c.self.invariant room follows count c.apply.ensures c.push_reserved.ensures.items c.push_reserved.ensures.capacity last
+    adds c.self.inside.deck c.self.inside.world _ c.self.inside.trace.items _ _ _ _ c.args.last c.len-index.result c.args.entry c.self.invariant room follows count c.apply.ensures c.push_reserved.ensures.items c.push_reserved.ensures.capacity last

@@ -1,6 +1,6 @@
 use Rattle.std.proofs.Common.{subst}
 use Rattle.rtm_model.specs.Births.{world}
-use Rattle.rtm_machine.specs.Shape.{IsShaped}
+use Rattle.rtm_system_world.specs.Shape.{IsShaped}
 use Rattle.rtm_system.specs.View.{SystemView}
 use Rattle.rtm_system.proofs.Standing.{shape_at}
 use Rattle.rtm_system.proofs.system.System.is_shaped.Goals as goal

@@ -1,5 +1,5 @@
 use Rattle.std.proofs.Common.{◌++◌, ap, ◌∙◌}
-use Rattle.rtm_system.specs.Steps.{arrived, entries_arrived}
+use Rattle.rtm_system.specs.Steps.{arrival_answer, entries_arrived}
 use Rattle.rtm_system.specs.declared.arrived.Arrived.{Arrived}
 use Rattle.rtm_system.proofs.Arrivals.{arrival_is_made}
 use Rattle.rtm_system.proofs.Shown.{picked}
@@ -11,4 +11,4 @@ returns-clause-trace c =
     let trace = c.args.self.now.trace in
     let note = picked c.args.cmd c.in-Some.note c.args.notes.now c.pick.result c.requires.there c.in-Some.is c.pick.ensures.which in
     c.arrive-made.ensures.trace
-    ∙ ap (λ (a : Arrived). trace ++ entries_arrived a) (c.arrive-made.ensures.answer ∙ ap (arrived d trace) note ∙ arrival_is_made d trace c.args.cmd c.args.entry c.requires.next.room c.requires.arrival)
+    ∙ ap (λ (a : Arrived). trace ++ entries_arrived a) (c.arrive-made.ensures.answer ∙ ap (arrival_answer d trace) note ∙ arrival_is_made d trace c.args.cmd c.args.entry c.requires.next.room c.requires.arrival)

@@ -1,7 +1,7 @@
 use Rattle.std.proofs.Common.{subst}
 use Rattle.std.specs.List.{AllByRecursion}
 use Rattle.rtm_model.specs.Fits.{Fits}
-use Rattle.rtm_sound.proofs.Fitting.{all_fit}
+use Rattle.rtm_law_sound.proofs.Fitting.{all_fit}
 use Rattle.rtm_system.specs.View.{SystemView}
 use Rattle.rtm_system.proofs.system.System.trace.Goals as goal
 

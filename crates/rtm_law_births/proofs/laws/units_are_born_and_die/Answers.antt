@@ -1,0 +1,6 @@
+use Rattle.rtm_law_births.proofs.LivingUnits.{units_live}
+use Rattle.rtm_law_births.proofs.Sound.{sound_history}
+use Rattle.rtm_law_births.proofs.laws.units_are_born_and_die.Goals as goal
+
+pub returns : goal.returns
+returns c = λ d h deck legal. units_live d h (sound_history d h deck legal) legal

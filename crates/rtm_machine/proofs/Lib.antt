@@ -1,9 +1,0 @@
-pub mod Posting
-pub mod Turns
-pub mod Splits
-pub mod Starting
-pub mod Carrying
-pub mod Applying
-pub mod Arriving
-pub mod Asked
-pub mod Normal

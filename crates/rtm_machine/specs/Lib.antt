@@ -1,6 +1,0 @@
-pub mod Shape
-pub mod Posting
-pub mod Beyond
-pub mod Follows
-pub mod Asked
-pub mod Idle

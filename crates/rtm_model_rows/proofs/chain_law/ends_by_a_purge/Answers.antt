@@ -1,0 +1,8 @@
+-- It is computed.
+use Rattle.std.proofs.Common.{refl}
+use Rattle.rtm_model.specs.Births.{world}
+use Rattle.rtm_model_rows.proofs.chain_law.ends_by_a_purge.Goals as goal
+
+pub returns : goal.returns
+unfolding world
+returns c = refl

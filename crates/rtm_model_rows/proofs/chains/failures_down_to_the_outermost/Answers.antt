@@ -1,0 +1,8 @@
+-- It is computed.
+use Rattle.std.proofs.Common.{refl}
+use Rattle.rtm_model.specs.Births.{world}
+use Rattle.rtm_model_rows.proofs.chains.failures_down_to_the_outermost.Goals as goal
+
+pub returns : goal.returns
+unfolding world
+returns c = refl

@@ -1,8 +1,0 @@
--- It is computed.
-use Rattle.std.proofs.Common.{refl}
-use Rattle.rtm_model.specs.Records.{records}
-use Rattle.rtm_rows.proofs.handed_records.records_of_percolation_and_retry.Goals as goal
-
-pub returns : goal.returns
-unfolding records
-returns c = refl

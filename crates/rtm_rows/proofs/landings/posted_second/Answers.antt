@@ -1,8 +1,0 @@
--- It is computed.
-use Rattle.std.proofs.Common.{refl}
-use Rattle.rtm_model.specs.Births.{world}
-use Rattle.rtm_rows.proofs.landings.posted_second.Goals as goal
-
-pub returns : goal.returns
-unfolding world
-returns c = refl

@@ -1,5 +1,0 @@
-use Rattle.rtm_sound.proofs.Histories.{Legal-append}
-use Rattle.rtm_sound.proofs.laws.one_more_entry_is_legal.Goals as goal
-
-pub returns : goal.returns
-returns c = Legal-append

@@ -1,5 +1,0 @@
-use Rattle.rtm_sound.proofs.Histories.{prefix_legal}
-use Rattle.rtm_sound.proofs.laws.prefixes_are_legal.Goals as goal
-
-pub returns : goal.returns
-returns c = prefix_legal

@@ -1,0 +1,215 @@
+//! What an entry changes of its own unit's control blocks.
+
+ghost use Rattle.std.specs.Prelude.{◌≡◌, ◌<◌, ◌==◌, [], find, IfSome, None};
+ghost use Rattle.std.specs.Option.{option_map};
+ghost use Rattle.rtm_codes.specs.Code.{IsInRange};
+ghost use Rattle.rtm_deck_items.specs.Reading.{op_at};
+ghost use Rattle.rtm_deck_items.specs.declared.op.Op.TheVariants.{Return};
+ghost use Rattle.rtm_model.specs.Births.{asks_dump, asks_step, error_record, manager_routine, own_entry, routine_named, with_error, with_landed, with_routine_entered};
+ghost use Rattle.rtm_model.specs.NextEntry.{card_record, landed_record};
+ghost use Rattle.rtm_model.specs.Soundness.{IsPlace};
+ghost use Rattle.rtm_model.specs.declared.entry.What.TheVariants.{Exec};
+ghost use Rattle.rtm_system_unit.specs.Applying.{CanApplyTo, CanBeEntered, HasRoomFor, IsFitting};
+
+use crate::unit_core::Core;
+use crate::{here, own_card};
+use rtm_codes::Code;
+use rtm_deck_items::{Deck, Op};
+use rtm_ending::Managers;
+use rtm_model::{Abort, Kind, Manager1, Mark, Place, RecordFlags, Reg, What};
+use rtm_sdwa::{Sdwa, SdwaFlags};
+
+// No flag stands.
+const NO_FLAGS: RecordFlags = RecordFlags {
+    clup: false,
+    perc: false,
+    staf: false,
+    step: false,
+    reason: false,
+    term_only: false,
+    dump: false,
+    remrec: false,
+    logrec: false,
+    fresdwa: false,
+};
+
+// The card at a place.
+#[tactic(auto, using(crate::proofs::Fitting::card_is_fitting))]
+fn card_at<'d>(deck: &'d Deck, at: Place, at_end: &'d Op) -> &'d Op
+    requires { at_end.now ≡ Return }
+    ensures value { result.now ≡ op_at deck.now at.prog at.op }
+    ensures fitting { IsFitting result.now }
+{
+    deck.keeps_its_form();
+    here::op_at(deck, at, at_end)
+}
+
+// The record of a card's error, in a unit that is doomed or not.
+fn card_error(doomed: bool, code: Code, reason: Option<u32>, dump: bool, step: bool) -> Sdwa
+    requires { IsInRange code }
+    ensures { result ≡ card_record doomed code reason dump step }
+{
+    let flags = SdwaFlags::of(RecordFlags {
+        clup: doomed,
+        dump,
+        step,
+        ..NO_FLAGS
+    });
+    Sdwa::fresh(code, reason, flags)
+}
+
+// The record of a landed abort.
+fn landed_error(abort: Abort) -> Sdwa
+    requires { IsInRange abort.code }
+    ensures { result ≡ landed_record abort }
+{
+    let flags = SdwaFlags::of(RecordFlags {
+        clup: !abort.retry,
+        term_only: abort.term_only,
+        dump: abort.dump,
+        ..NO_FLAGS
+    });
+    Sdwa::fresh(abort.code, abort.reason, flags)
+}
+
+fn asks_dump(op: &Op) -> bool
+    ensures { result ≡ asks_dump op.now }
+{
+    match *op {
+        Op::Abend { dump, .. } => dump,
+        _ => false,
+    }
+}
+
+fn asks_step(op: &Op) -> bool
+    ensures { result ≡ asks_step op.now }
+{
+    match *op {
+        Op::Abend { step, .. } => step,
+        _ => false,
+    }
+}
+
+// A manager, as the routine of a bracket.
+fn manager_routine(manager: Manager1) -> Reg
+    ensures { result ≡ manager_routine manager }
+{
+    Reg {
+        kind: Kind::Mgr,
+        born: manager.born,
+        owner: 0,
+        depth: 0,
+        prog: manager.prog,
+        term: false,
+        cancel: false,
+        xctl: false,
+    }
+}
+
+// The manager of that birth, as the routine of a bracket.
+fn manager_named(born: u32, managers: &Managers) -> Option<Reg>
+    ensures { result ≡ option_map manager_routine (find (λ manager. manager.born == born) managers.now) }
+{
+    match managers.manager_born_at(born) {
+        Some(manager) => Some(manager_routine(manager)),
+        None => None,
+    }
+}
+
+impl Core {
+    fn routine_named(&self, kind: Kind, born: u32, managers: &Managers) -> Option<Reg>
+        ensures { result ≡ routine_named kind born managers.now self.now }
+    {
+        match kind {
+            Kind::Frr => self.frrs.routine_born_at(born),
+            Kind::Estae => self.estaes.routine_born_at(born),
+            Kind::Estai => self.estais.routine_born_at(born),
+            Kind::Mgr => manager_named(born, managers),
+        }
+    }
+
+    /// A card has met with an error.
+    pub(crate) fn open_error(&mut self, mark: Mark, op: &Op)
+        requires { IsInRange mark.code }
+        ensures { self.new ≡ with_error (error_record self.old.doomed mark op.now) self.old }
+    {
+        let error = card_error(
+            self.doomed,
+            mark.code,
+            mark.reason,
+            asks_dump(op),
+            asks_step(op),
+        );
+        self.levels.open_error(error);
+    }
+
+    // The abort lands, if one is pending.
+    fn land(&mut self, abort: Option<Abort>)
+        requires { IfSome abort (λ abort. IsInRange abort.code) }
+        ensures { self.new ≡ with_landed abort self.old }
+    {
+        if let Some(abort) = abort {
+            self.levels.open_error(landed_error(abort));
+            self.doomed = self.doomed || !abort.retry;
+        }
+    }
+
+    /// The routine gets control, in a bracket of its own.
+    pub(crate) fn enter(&mut self, index: u32, routine: Option<Reg>)
+        requires room { IfSome routine (CanBeEntered self.old) }
+        requires index { index < 4294967295 }
+        ensures { self.new ≡ with_routine_entered index routine self.old }
+    {
+        if let Some(reg) = routine {
+            self.blocks.begin(index + 1, reg.prog);
+            self.levels.enter(reg);
+        }
+    }
+
+    // A card was executed.
+    fn execute(&mut self, deck: &Deck, index: u32, at: Place, rc: u8)
+        requires place { IsPlace deck.now at }
+        requires room { HasRoomFor self.old (op_at deck.now at.prog at.op) }
+        requires index { index < 4294967295 }
+        ensures { self.new ≡ own_entry deck.now index [] None (Exec at rc) self.old }
+    {
+        // What is read says that a program has few cards, so that a place has another behind it.
+        let _cards = deck.lines_of(at.prog);
+        let at_end = Op::Return;
+        let op = card_at(deck, at, &at_end);
+        let place = own_card::place_after(deck, at, rc, op);
+        self.own_card(index, place, op);
+    }
+
+    /// The entry of that index changes the unit, of which that abort is the first that is pending.
+    pub(crate) fn apply(
+        &mut self,
+        deck: &Deck,
+        index: u32,
+        managers: &Managers,
+        abort: Option<Abort>,
+        what: &What,
+    )
+        requires can { CanApplyTo deck.now self.old managers.now abort what.now }
+        requires index { index < 4294967295 }
+        ensures { self.new ≡ own_entry deck.now index managers.now abort what.now self.old }
+    {
+        match *what {
+            What::Exec { at, rc } => self.execute(deck, index, at, rc),
+            What::Error { at, mark } => self.open_error(mark, here::op_at(deck, at, &Op::Return)),
+            What::Land { .. } => self.land(abort),
+            What::Enter { kind, reg, .. } => {
+                let routine = self.routine_named(kind, reg, managers);
+                self.enter(index, routine);
+            }
+            What::Leave {
+                kind,
+                reg,
+                verdict,
+                ..
+            } => self.leave(kind, reg, verdict),
+            What::Begin { code, .. } => self.begin_to_end(code),
+            _ => {}
+        }
+    }
+}

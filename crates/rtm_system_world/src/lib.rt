@@ -1,0 +1,15 @@
+//! What lives of a deck that runs: the control blocks of each unit, and what units share. It answers what a unit makes
+//! next and which commands may arrive, and carries an entry out, each exactly as the definitions say.
+#![tactic(auto)]
+
+mod apply;
+mod arrivals;
+mod beyond;
+mod needs;
+mod next_entry;
+mod posted;
+mod surroundings;
+mod units;
+mod world;
+
+pub use world::World;
