@@ -11,8 +11,6 @@ mod run_tests;
 #[cfg(test)]
 mod scan_tests;
 #[cfg(test)]
-mod step_tests;
-#[cfg(test)]
 mod tests;
 #[cfg(test)]
 mod trace_tests;
