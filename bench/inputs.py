@@ -98,6 +98,12 @@ def loop_and_events():
     return ("\n".join(cards + [" END"]) + "\n").encode()
 
 
+def branches():
+    """One task that branches to and fro between the ends of a program of 10,000 cards until it comes to 100,000 entries."""
+    cards = [" REGION LIMIT=100000", "MAIN PROG", "A B Z"] + [" NOP"] * 9990 + ["Z B A", " PEND", "JOB TASK PGM=MAIN"]
+    return ("\n".join(cards + [" END"]) + "\n").encode()
+
+
 def nothing():
     """What a load is given."""
     return b""
@@ -106,7 +112,7 @@ def nothing():
 # By the words that each is timed with. An input of `verify` is a deck of `seq`, behind which its trace is put.
 INPUTS = {
     "scan": (many_cards, comments, one_long_comment, too_long),
-    "seq": (many_tasks, short_loop, loop, loop_and_waiters, loop_and_events),
+    "seq": (many_tasks, short_loop, loop, loop_and_waiters, loop_and_events, branches),
     "verify": (many_tasks, loop),
     "load 60": (nothing,),
 }

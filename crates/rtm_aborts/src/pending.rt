@@ -1,6 +1,6 @@
 //! The aborts that are pending for a unit.
 
-ghost use Rattle.std.specs.Prelude.{◌≡◌, ◌<◌, [], ◌∷◌, ◌++◌, length};
+ghost use Rattle.std.specs.Prelude.{◌≡◌, ◌<◌, [], ◌∷◌, ◌++◌, length, IfNone, IfSome};
 ghost use Rattle.rtm_model.specs.Aborts.{is_same_class, is_of_class, has_class, fate_of, with_abort, first_abort, after_landing, HasDistinctClasses};
 
 use arrayvec::ArrayVec;
@@ -165,9 +165,12 @@ impl Pending {
     }
 
     /// It lands, and is pending no more.
+    #[tactic(auto, using(crate::proofs::Landing::first_lands))]
     pub fn land(&mut self) -> Option<Abort>
         ensures which { result ≡ first_abort self.old }
-        ensures list { self.new ≡ after_landing self.old }
+        ensures list { IfSome result
+            (λ abort. self.new ≡ after_landing abort.class abort.from self.old) }
+        ensures none { IfNone result (self.new ≡ self.old) }
     {
         if self.list.is_empty() {
             return None;

@@ -3,13 +3,6 @@
 use crate::{Abort, Class, Fate, Pending, interruptible};
 use rtm_codes::Code;
 
-fn is_send<T: Send>() {}
-
-#[test]
-fn aborts_may_move_to_another_thread() {
-    is_send::<Pending>();
-}
-
 fn abort(class: Class, from: u32) -> Abort {
     Abort {
         class,

@@ -2,16 +2,14 @@
 
 ghost use Rattle.std.specs.Prelude.{◌≡◌, ◌≤◌, ◌==◌, ◌↔◌, [], ◌∷◌, length, reverse, find, IfOk, IsErr, OnOk, OnErr, vec_capacity};
 ghost use Rattle.rtm_model.specs.Blocks.{newest, oldest, without_newest, from_first, is_block_of, with_newest_at, from_birth};
+ghost use Rattle.rtm_model.specs.Limits.{most_blocks};
 
 use rtm_codes::NoMemory;
-use rtm_model::{Block, Full, Place};
+use rtm_model::{Block, Full, MOST_BLOCKS, Place};
 use std::alloc::Global;
 use std::marker::Model;
 
-// At most this many request blocks of a bracket (this profile).
-const MOST_BLOCKS: usize = 32;
-
-/// The request blocks of a bracket, at most 32, in room that is reserved. A contract sees the newest first.
+/// The request blocks of a bracket, at most `MOST_BLOCKS`, in room that is reserved. A contract sees the newest first.
 #[derive(Drop)]
 pub(crate) struct BlockList {
     list: Vec<Block>,
@@ -20,12 +18,14 @@ pub(crate) struct BlockList {
 impl Model for BlockList {
     ghost use Rattle.std.specs.Prelude.{◌≤◌, List, length, reverse, vec_capacity};
     ghost use Rattle.rtm_model.specs.declared.block.Block.{Block};
+    ghost use Rattle.rtm_model.specs.Limits.{most_blocks};
 
     ghost Value = { List Block };
 
     ghost view = { λ a. reverse a.list.items };
 
-    ghost invariant = { λ a. (length a.list.items ≤ 32) × (32 ≤ vec_capacity a.list) };
+    ghost invariant = { λ a. (length a.list.items ≤ most_blocks)
+        × (most_blocks ≤ vec_capacity a.list) };
 }
 
 fn is_block_of(block: &Block, born: u32) -> bool
@@ -107,9 +107,9 @@ impl BlockList {
         self.list.push_reserved(block);
     }
 
-    /// One more block. `Full` where 32 are there.
+    /// One more block. `Full` where as many are there as may be.
     pub(crate) fn push(&mut self, block: Block) -> Result<(), Full>
-        ensures full { IsErr result ↔ (length self.old ≡ 32) }
+        ensures full { IsErr result ↔ (length self.old ≡ most_blocks) }
         ensures ok { OnOk result (self.new ≡ block ∷ self.old) }
         ensures err { OnErr result (self.new ≡ self.old) }
     {

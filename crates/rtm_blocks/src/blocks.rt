@@ -1,19 +1,17 @@
 //! The request blocks of a unit, bracket by bracket.
 
-ghost use Rattle.std.specs.Prelude.{◌≡◌, ◌==◌, ◌<◌, ◌↔◌, not, nat_le, [], length, reverse, IfOk, IsErr, OnOk, OnErr, vec_len, vec_capacity};
+ghost use Rattle.std.specs.Prelude.{◌≡◌, ◌<◌, ◌↔◌, not, [], length, reverse, IfOk, IsErr, OnOk, OnErr, vec_len, vec_capacity};
 ghost use Rattle.std.specs.Option.{option_copied};
 ghost use Rattle.rtm_model.specs.Blocks.{newest, newest_bracket, newest_block, oldest_block, block_born, place_or_none, birth_or_zero, place_in, place_of_born, newest_birth, oldest_birth, has_one_block, has_full_bracket, has_full_brackets, first_place, block_of, in_newest_bracket, with_bracket, without_bracket, with_linked, with_place, with_program, after_return, cut_to};
+ghost use Rattle.rtm_model.specs.Limits.{most_blocks, most_brackets};
 
 use crate::block_list::BlockList;
 use rtm_codes::NoMemory;
-use rtm_model::{Block, Full, Place};
+use rtm_model::{Block, Full, MOST_BLOCKS, MOST_BRACKETS, Place};
 use std::alloc::Global;
 use std::marker::Model;
 
-// At most this many brackets of a unit, the outermost among them (this profile).
-const MOST_BRACKETS: usize = 16;
-
-/// The request blocks of a unit: a list of brackets, at most 16, each a list of blocks, at most 32 (this profile).
+/// The request blocks of a unit: a list of brackets, at most `MOST_BRACKETS`, each a list of blocks, at most `MOST_BLOCKS`.
 ///
 /// A contract sees the innermost bracket first, and in each bracket the newest block. A block's birth is 0 for the one
 /// that the job step task has at the start, and else the index of the entry at which it was born, plus one.
@@ -28,13 +26,14 @@ pub struct Blocks {
 impl Model for Blocks {
     ghost use Rattle.std.specs.Prelude.{◌≡◌, ◌+◌, ◌≤◌, List, length, reverse, vec_capacity};
     ghost use Rattle.rtm_model.specs.declared.block.Block.{Block};
+    ghost use Rattle.rtm_model.specs.Limits.{most_brackets};
 
     ghost Value = { List (List Block) };
 
     ghost view = { λ a. reverse a.brackets.items };
 
-    ghost invariant = { λ a. (length a.brackets.items + length a.spares.items ≡ 16) ×
-        (16 ≤ vec_capacity a.brackets) × (16 ≤ vec_capacity a.spares) };
+    ghost invariant = { λ a. (length a.brackets.items + length a.spares.items ≡ most_brackets) ×
+        (most_brackets ≤ vec_capacity a.brackets) × (most_brackets ≤ vec_capacity a.spares) };
 }
 
 // The place that every program begins with.
@@ -73,9 +72,9 @@ fn birth_or_zero(block: Option<Block>) -> u32
 
 // Room for that many more brackets.
 fn add_spares(alloc: Global, spares: &mut Vec<BlockList>) -> Result<(), NoMemory>
-    requires { (vec_len spares.old ≡ 0) × (vec_capacity spares.old ≡ 16) }
-    ensures len { OnOk result (vec_len spares.new ≡ 16) }
-    ensures capacity { OnOk result (vec_capacity spares.new ≡ 16) }
+    requires { (vec_len spares.old ≡ 0) × (vec_capacity spares.old ≡ most_brackets) }
+    ensures len { OnOk result (vec_len spares.new ≡ most_brackets) }
+    ensures capacity { OnOk result (vec_capacity spares.new ≡ most_brackets) }
 {
     for _ in 0..MOST_BRACKETS {
         let list = BlockList::with_room(alloc)?;
@@ -138,7 +137,7 @@ fn block_count(brackets: &[BlockList]) -> usize
 }
 
 impl Blocks {
-    /// No bracket, and room for 16.
+    /// No bracket, and room for as many as may be.
     pub fn with_room(alloc: Global) -> Result<Blocks, NoMemory>
         ensures { IfOk result (λ blocks. blocks ≡ []) }
     {
@@ -148,13 +147,6 @@ impl Blocks {
             brackets: Vec::with_capacity(alloc, MOST_BRACKETS)?,
             spares,
         })
-    }
-
-    /// Whether no bracket is there: the unit is not born yet, or has begun to end.
-    pub fn is_empty(&self) -> bool
-        ensures { result ≡ (length self.now == 0) }
-    {
-        self.brackets.is_empty()
     }
 
     /// Whether as many brackets are there as may be, so that no more is to begin.
@@ -167,7 +159,7 @@ impl Blocks {
     /// The birth of a unit, or the entry of a routine: one more bracket, with a block at the first operation of the program
     /// of that number.
     pub fn begin(&mut self, born: u32, prog: u16)
-        requires room { length self.old < 16 }
+        requires room { length self.old < most_brackets }
         ensures { self.new ≡ with_bracket born prog self.old }
     {
         match self.spares.pop() {
@@ -192,12 +184,13 @@ impl Blocks {
     pub fn is_bracket_full(&self) -> bool
         ensures { result ≡ has_full_bracket self.now }
     {
-        block_count(&self.brackets) >= 32
+        block_count(&self.brackets) >= MOST_BLOCKS
     }
 
-    /// LINK: one more block in the innermost bracket, at the first operation of the program. `Full` where 32 are there.
+    /// LINK: one more block in the innermost bracket, at the first operation of the program. `Full` where it has as many as
+    /// it may have.
     pub fn link(&mut self, born: u32, prog: u16) -> Result<(), Full>
-        ensures full { IsErr result ↔ (length (newest_bracket self.old) ≡ 32) }
+        ensures full { IsErr result ↔ (length (newest_bracket self.old) ≡ most_blocks) }
         ensures ok { OnOk result (self.new ≡ with_linked born prog self.old) }
         ensures err { OnErr result (self.new ≡ self.old) }
     {

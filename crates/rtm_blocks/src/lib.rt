@@ -3,8 +3,10 @@
 
 mod block_list;
 mod blocks;
+mod send;
 #[cfg(test)]
 mod tests;
 
 pub use blocks::Blocks;
 pub use rtm_model::{Block, Full, Place};
+pub use send::types_are_send;

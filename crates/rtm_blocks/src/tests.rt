@@ -3,13 +3,6 @@
 use crate::{Blocks, Full, Place};
 use std::test::Fail;
 
-fn is_send<T: Send>() {}
-
-#[test]
-fn blocks_may_move_to_another_thread() {
-    is_send::<Blocks>();
-}
-
 #[derive(Clone, Copy, Debug)]
 enum Step {
     Begin(u32, u16),
@@ -59,7 +52,7 @@ fn make_step(blocks: &mut Blocks, step: Step) -> bool {
 #[test]
 fn keeps_blocks(rt: HostRuntime) -> Result<(), Fail> {
     let mut blocks = Blocks::with_room(rt.alloc())?;
-    assert!(rt; blocks.is_empty());
+    assert!(rt; blocks.newest_block().is_none());
     // After each step: what it answers, the newest block and its place, the oldest, and whether it is the only one.
     let steps = [
         (Step::Begin(0, 7), true, 0, (7, 1), 0, true),

@@ -59,7 +59,8 @@ fn empty_words(alloc: Global, units: u16) -> Result<Vec<u64>, NoMemory>
 #[tactic(auto, using(crate::proofs::Opening::seats_count, crate::proofs::Opening::one_more_seat))]
 fn opening_seats(alloc: Global, units: u16, targets: &[u16]) -> Result<Vec<UnitSeat>, NoMemory>
     requires { length targets.now ≤ 64 }
-    ensures { IfOk result (λ seats. seats.items ≡ map (opening_seat targets.now) (range_with_len 0 units)) }
+    ensures { IfOk result
+        (λ seats. seats.items ≡ map (opening_seat targets.now) (range_with_len 0 units)) }
 {
     let mut seats = Vec::with_capacity(alloc, units as usize)?;
     for unit in 0..units {
@@ -76,7 +77,8 @@ fn opening_seats(alloc: Global, units: u16, targets: &[u16]) -> Result<Vec<UnitS
 fn post_to(words: &mut Vec<u64>, unit: u16, cmd: u8)
     requires unit { unit < length words.old.items }
     requires command { cmd < 64 }
-    ensures { words.new.items ≡ slice_set words.old.items unit (with_one cmd (slice_index words.old.items unit)) }
+    ensures { words.new.items
+        ≡ slice_set words.old.items unit (with_one cmd (slice_index words.old.items unit)) }
 {
     words[unit as usize] = bits::with_one(words[unit as usize], cmd);
 }
@@ -129,7 +131,9 @@ impl Board {
     /// A board for the deck, with the console's seat and a seat for each unit, in their order. Nothing is posted, and nothing
     /// is taken. This call takes all memory.
     pub fn make(alloc: Global, deck: &Deck) -> Result<(Board, ConsoleSeat, Vec<UnitSeat>), NoMemory>
-        ensures { IfOk result (λ made. IsOpening (targets_of deck.now) (length deck.now.units) made.0 made.1 made.2.items) }
+        ensures { IfOk result
+            (λ made.
+            IsOpening (targets_of deck.now) (length deck.now.units) made.0 made.1 made.2.items) }
     {
         deck.keeps_its_form();
         let targets = targets_of(alloc, deck)?;
@@ -141,9 +145,12 @@ impl Board {
         requires board { seat.old.targets ≡ self.old.targets }
         requires command { cmd < length self.old.targets }
         ensures which { result ≡ (if has cmd seat.old.posted then Posted.Already else Posted.Now) }
-        ensures board { self.new ≡ (if has cmd seat.old.posted then self.old else with_command cmd self.old) }
-        ensures seat { seat.new ≡ (if has cmd seat.old.posted then seat.old else record seat.old { posted = with_one cmd seat.old.posted }) }
-        ensures accounted { (unit : UnitView) → IsAccountedFor self.old seat.old unit → IsAccountedFor self.new seat.new unit }
+        ensures board { self.new
+            ≡ (if has cmd seat.old.posted then self.old else with_command cmd self.old) }
+        ensures seat { seat.new
+            ≡ (if has cmd seat.old.posted then seat.old else record seat.old { posted = with_one cmd seat.old.posted }) }
+        ensures accounted { (unit : UnitView) → IsAccountedFor self.old seat.old unit
+            → IsAccountedFor self.new seat.new unit }
     {
         if bits::has(seat.posted, cmd) {
             return Posted::Already;
@@ -160,8 +167,10 @@ impl Board {
         ensures board { self.new ≡ with_word seat.old.unit no_commands self.old }
         ensures seat { seat.new ≡ record seat.old { taken = union_of seat.old.taken result } }
         ensures own { (cmd : ℕ) → has cmd result ≡ true → has cmd seat.old.commands ≡ true }
-        ensures accounted { (console : ConsoleView) → IsAccountedFor self.old console seat.old → IsAccountedFor self.new console seat.new }
-        ensures others { (console : ConsoleView) (unit : UnitView) → unit.unit ≢ seat.old.unit → IsAccountedFor self.old console unit → IsAccountedFor self.new console unit }
+        ensures accounted { (console : ConsoleView) → IsAccountedFor self.old console seat.old
+            → IsAccountedFor self.new console seat.new }
+        ensures others { (console : ConsoleView) (unit : UnitView) → unit.unit ≢ seat.old.unit
+            → IsAccountedFor self.old console unit → IsAccountedFor self.new console unit }
     {
         let word = take_from(&mut self.words, seat.unit);
         seat.taken |= word;

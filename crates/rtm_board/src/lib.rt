@@ -7,11 +7,12 @@ mod board;
 mod notes;
 mod operator;
 mod seats;
+mod send;
 #[cfg(test)]
 mod tests;
-mod threads;
 
 pub use board::{Board, Posted};
 pub use notes::{Note, Notes};
 pub use operator::all_notes;
 pub use seats::{ConsoleSeat, UnitSeat};
+pub use send::types_are_send;

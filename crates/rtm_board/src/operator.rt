@@ -19,9 +19,11 @@ fn post(board: &mut Board, console: &mut ConsoleSeat, cmd: u8)
     requires command { cmd < length board.old.targets }
     ensures targets { console.new.targets ≡ board.new.targets }
     ensures count { length board.new.targets ≡ length board.old.targets }
-    ensures accounts { (seats : List UnitView) → AreAccountedFor board.old console.old seats → AreAccountedFor board.new console.new seats }
+    ensures accounts { (seats : List UnitView) → AreAccountedFor board.old console.old seats
+        → AreAccountedFor board.new console.new seats }
     ensures this { has cmd console.new.posted ≡ true }
-    ensures others { (other : ℕ) → has other console.old.posted ≡ true → has other console.new.posted ≡ true }
+    ensures others { (other : ℕ) → has other console.old.posted ≡ true
+        → has other console.new.posted ≡ true }
 {
     let _posted = board.post(console, cmd);
 }
@@ -31,7 +33,8 @@ fn post_all(board: &mut Board, console: &mut ConsoleSeat, count: u8)
     requires targets { console.old.targets ≡ board.old.targets }
     requires count { count ≤ length board.old.targets }
     ensures targets { console.new.targets ≡ board.new.targets }
-    ensures accounts { (seats : List UnitView) → AreAccountedFor board.old console.old seats → AreAccountedFor board.new console.new seats }
+    ensures accounts { (seats : List UnitView) → AreAccountedFor board.old console.old seats
+        → AreAccountedFor board.new console.new seats }
     ensures posted { (cmd : ℕ) → cmd < count → has cmd console.new.posted ≡ true }
 {
     'commands: for cmd in 0..count {

@@ -4,9 +4,9 @@ use Rattle.std.specs.Prelude.{if◌then◌else◌}
 use Rattle.std.specs.List.{list_all, AllByRecursion}
 use Rattle.std.proofs.lemmas.Bool.{eqb-false, not-true, not-false, or_parts, or_cases, eqb-true, ltb-true, and_parts}
 use Rattle.rtm_cards.specs.declared.span.Span.{Span}
-use Rattle.rtm_cards.specs.declared.card.Card.{Card}
+use Rattle.rtm_cards.specs.View.{CardSpans}
 use Rattle.rtm_cards.specs.declared.fault.CutWhy.TheVariants.{OverLimit, BadByte, BadCard}
-use Rattle.rtm_cards.specs.Limits.{max_card_bytes}
+use Rattle.rtm_cards.specs.Limits.{most_card_bytes}
 use Rattle.rtm_cards.specs.Span.{text_of}
 use Rattle.rtm_cards.specs.Lines.{lines_of, line_at, start_of}
 use Rattle.rtm_cards.specs.Name.{is_letter, is_name_byte, is_name, is_name_field}
@@ -29,7 +29,7 @@ good_fields : (number : ℕ) (line : List ℕ) → fault_of number line ≡ None
 unfolding fault_of
 good_fields number line e ignored =
     let bad : is_bad_card line ≡ false = passed _ _ _ e in
-    let good = not-false _ (or_parts (ltb max_card_bytes (length line)) _ bad).1 in
+    let good = not-false _ (or_parts (ltb most_card_bytes (length line)) _ bad).1 in
     second (is_ignored line) (has_good_fields line) good ignored
 
 -- a name is short, and nothing is shorter
@@ -52,7 +52,7 @@ card_form number line e ignored =
       op = let some : length (op_of line) ≢ 0 = eqb-false _ _ (not-true _ p.1) in omega (arith, some);
     }
 
-pub is_card : (bytes : List ℕ) (card : Card) (number : ℕ) (line : Span) → card_text bytes card ≡ card_of number (text_of bytes line)
+pub is_card : (bytes : List ℕ) (card : CardSpans) (number : ℕ) (line : Span) → card_text bytes card ≡ card_of number (text_of bytes line)
     → HasSpansIn bytes card → LiesOn line.from (text_of bytes line) card
     → line_at (lines_of bytes) number ≡ text_of bytes line → start_of (lines_of bytes) number ≡ line.from
     → fault_of number (text_of bytes line) ≡ None → is_ignored (text_of bytes line) ≡ false → IsCardOf bytes card
@@ -67,6 +67,6 @@ is_card bytes card number line text spans place at start fine ignored =
       form = subst (λ (c : CardText). IsWellFormed c) (sym text) (card_form number (text_of bytes line) fine ignored);
     }
 
-pub each_push : (bytes : List ℕ) (cards : List Card) (c : Card) → AllByRecursion (IsCardOf bytes) cards → IsCardOf bytes c → AllByRecursion (IsCardOf bytes) (cards ++ c ∷ [])
+pub each_push : (bytes : List ℕ) (cards : List CardSpans) (c : CardSpans) → AllByRecursion (IsCardOf bytes) cards → IsCardOf bytes c → AllByRecursion (IsCardOf bytes) (cards ++ c ∷ [])
 each_push bytes [] c h e = (e, tt)
 each_push bytes (x ∷ xs) c h e = (h.0, each_push bytes xs c h.1 e)

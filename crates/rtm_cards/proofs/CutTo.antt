@@ -6,10 +6,10 @@ use Rattle.std.proofs.lemmas.Bool.{cases_lt, lt-ltb}
 use Rattle.std.specs.Prelude.{sum_by, if◌then◌else◌}
 use Rattle.std.specs.List.{AllByRecursion}
 use Rattle.rtm_cards.specs.declared.span.Span.{Span}
-use Rattle.rtm_cards.specs.declared.card.Card.{Card}
+use Rattle.rtm_cards.specs.View.{CardSpans}
 use Rattle.rtm_cards.specs.declared.fault.CutWhy.{CutWhy}
 use Rattle.rtm_cards.specs.declared.fault.CutWhy.TheVariants.{OverLimit}
-use Rattle.rtm_cards.specs.Limits.{max_bytes, max_cards}
+use Rattle.rtm_cards.specs.Limits.{most_bytes, most_cards}
 use Rattle.rtm_cards.specs.Span.{IsWithin, text_of}
 use Rattle.rtm_cards.specs.Lines.{lines_of, line_at, start_of}
 use Rattle.rtm_cards.specs.Rules.{is_ignored, fault_of}
@@ -18,8 +18,8 @@ use Rattle.rtm_cards.specs.Faults.{HasNoFault, IsFirstFault}
 use Rattle.rtm_cards.proofs.Spans.{text_length, text_empty}
 
 -- So many lines are cut, none of them has a fault, and the rest stands in that span.
-pub record IsCutTo (bytes : List ℕ) (cards : List Card) (lines : ℕ) (rest : Span) : Type 0 where
-  pub few : lines ≤ max_cards
+pub record IsCutTo (bytes : List ℕ) (cards : List CardSpans) (lines : ℕ) (rest : Span) : Type 0 where
+  pub few : lines ≤ most_cards
   pub there : lines ≤ length (lines_of bytes)
   pub left : drop lines (lines_of bytes) ≡ lines_of (text_of bytes rest)
   pub start : rest.from < rest.to → start_of (lines_of bytes) (lines + 1) ≡ rest.from
@@ -57,7 +57,7 @@ cards_from-append n (x ∷ xs) ys =
     choose (is_ignored x) (card_of n x) _ _ _ (cards_from-append (n + 1) xs ys ∙ ap (λ (j : ℕ). cards_from (n + 1) xs ++ cards_from j ys) k)
 
 -- where nothing is left, all lines are cut
-pub all_lines : (bytes : List ℕ) (cards : List Card) (lines : ℕ) (rest : Span) → IsCutTo bytes cards lines rest → rest.to ≤ rest.from → lines ≡ length (lines_of bytes)
+pub all_lines : (bytes : List ℕ) (cards : List CardSpans) (lines : ℕ) (rest : Span) → IsCutTo bytes cards lines rest → rest.to ≤ rest.from → lines ≡ length (lines_of bytes)
 unfolding lines_of
 all_lines bytes cards lines rest h e =
     let none : drop lines (lines_of bytes) ≡ [] = h.left ∙ ap lines_of (text_empty bytes rest e) in
@@ -72,7 +72,7 @@ pub record NextLine (bytes : List ℕ) (rest line behind : Span) : Type 0 where
   pub line_within : IsWithin bytes line
   pub within : IsWithin bytes behind
 
-line_of_next : (bytes : List ℕ) (cards : List Card) (lines : ℕ) (rest line behind : Span) → IsCutTo bytes cards lines rest → NextLine bytes rest line behind
+line_of_next : (bytes : List ℕ) (cards : List CardSpans) (lines : ℕ) (rest line behind : Span) → IsCutTo bytes cards lines rest → NextLine bytes rest line behind
     → GoesOn (lines_of bytes) lines (text_of bytes line) (lines_of (text_of bytes behind))
 line_of_next bytes cards lines rest line behind h l =
     goes_on (lines_of bytes) lines (text_of bytes line) (lines_of (text_of bytes behind)) (h.left ∙ l.lines)
@@ -100,10 +100,10 @@ fine_more xs i h e m p q = elim (cases_lt i m) [
 ]
 
 -- a card without a fault is one of the first
-few_cards : (number : ℕ) (card : List ℕ) → fault_of number card ≡ None → number ≤ max_cards
+few_cards : (number : ℕ) (card : List ℕ) → fault_of number card ≡ None → number ≤ most_cards
 unfolding fault_of
-few_cards number card e = elim (cases_lt max_cards number) [
-  | inl over ↦ absurd (some≢none _ _ (lt-ltb max_cards number over) e)
+few_cards number card e = elim (cases_lt most_cards number) [
+  | inl over ↦ absurd (some≢none _ _ (lt-ltb most_cards number over) e)
   | inr le ↦ le
 ]
   where
@@ -111,13 +111,13 @@ few_cards number card e = elim (cases_lt max_cards number) [
     some≢none true o p q = cc
     some≢none false o p q = cc
 
-pub no_fault : (bytes : List ℕ) (cards : List Card) (lines : ℕ) (rest : Span) → IsCutTo bytes cards lines rest → rest.to ≤ rest.from → length bytes ≤ max_bytes → HasNoFault bytes
+pub no_fault : (bytes : List ℕ) (cards : List CardSpans) (lines : ℕ) (rest : Span) → IsCutTo bytes cards lines rest → rest.to ≤ rest.from → length bytes ≤ most_bytes → HasNoFault bytes
 no_fault bytes cards lines rest h e size =
     let n = all_lines bytes cards lines rest h e in
     record { size = size; cards = λ m p q. h.fine m p (omega (arith, q)) }
 
-pub first_fault : (bytes : List ℕ) (cards : List Card) (lines : ℕ) (rest line behind : Span) (why : CutWhy) → IsCutTo bytes cards lines rest → NextLine bytes rest line behind
-    → length bytes ≤ max_bytes → fault_of (lines + 1) (text_of bytes line) ≡ Some why → IsFirstFault bytes (record { card = lines + 1; why = why })
+pub first_fault : (bytes : List ℕ) (cards : List CardSpans) (lines : ℕ) (rest line behind : Span) (why : CutWhy) → IsCutTo bytes cards lines rest → NextLine bytes rest line behind
+    → length bytes ≤ most_bytes → fault_of (lines + 1) (text_of bytes line) ≡ Some why → IsFirstFault bytes (record { card = lines + 1; why = why })
 first_fault bytes cards lines rest line behind why h l size e =
     let g = line_of_next bytes cards lines rest line behind h l in
     let here = line_at_next _ _ _ _ g in
@@ -131,7 +131,7 @@ first_fault bytes cards lines rest line behind why h l size e =
       };
     }
 
-pub step : (bytes : List ℕ) (old new : List Card) (lines : ℕ) (rest line behind : Span) → IsCutTo bytes old lines rest → NextLine bytes rest line behind
+pub step : (bytes : List ℕ) (old new : List CardSpans) (lines : ℕ) (rest line behind : Span) → IsCutTo bytes old lines rest → NextLine bytes rest line behind
     → rest.from < rest.to
     → fault_of (lines + 1) (text_of bytes line) ≡ None
     → map (card_text bytes) new ≡ map (card_text bytes) old ++ cards_from (lines + 1) (text_of bytes line ∷ [])

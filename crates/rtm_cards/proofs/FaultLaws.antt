@@ -5,7 +5,7 @@ use Rattle.std.proofs.lemmas.Bool.{cases_lt, cases_order}
 use Rattle.rtm_cards.specs.declared.fault.CutWhy.{CutWhy}
 use Rattle.rtm_cards.specs.declared.fault.CutWhy.TheVariants.{TooLong, OverLimit, BadByte, BadCard}
 use Rattle.rtm_cards.specs.declared.fault.CutFault.{CutFault}
-use Rattle.rtm_cards.specs.Limits.{max_bytes}
+use Rattle.rtm_cards.specs.Limits.{most_bytes}
 use Rattle.rtm_cards.specs.Lines.{lines_of, line_at, number_at}
 use Rattle.rtm_cards.specs.Rules.{fault_of}
 use Rattle.rtm_cards.specs.Faults.{FirstCutFault, HasNoFault, IsFirstFault}
@@ -41,8 +41,8 @@ up_to lines (suc n) there = elim (up_to lines n (omega arith)) [
 
 -- an input has no fault, or a first one, and never both
 pub fault_or_none : (bytes : List ℕ) → HasNoFault bytes ⊎ ((fault : CutFault) × IsFirstFault bytes fault)
-fault_or_none bytes = elim (cases_lt max_bytes (length bytes)) [
-  | inl over ↦ inr (record { card = number_at bytes max_bytes; why = TooLong }, record { by_size = λ _. (refl, refl); by_card = λ few. absurd (omega (arith, over, few)) })
+fault_or_none bytes = elim (cases_lt most_bytes (length bytes)) [
+  | inl over ↦ inr (record { card = number_at bytes most_bytes; why = TooLong }, record { by_size = λ _. (refl, refl); by_card = λ few. absurd (omega (arith, over, few)) })
   | inr few ↦ elim (up_to (lines_of bytes) (length (lines_of bytes)) (omega arith)) [
     | inl none ↦ inl (record { size = few; cards = none })
     | inr f ↦ inr (record { card = f.0; why = f.1 }, record { by_size = λ over. absurd (omega (arith, over, few)); by_card = λ _. f.2 })
@@ -86,7 +86,7 @@ same_why lines m n v w a b =
     cc
 
 pub only_one : (bytes : List ℕ) (a b : CutFault) → IsFirstFault bytes a → IsFirstFault bytes b → a ≡ b
-only_one bytes a b f g = elim (cases_lt max_bytes (length bytes)) [
+only_one bytes a b f g = elim (cases_lt most_bytes (length bytes)) [
   | inl over ↦ same_fault a b ((f.by_size over).0 ∙ sym (g.by_size over).0) ((f.by_size over).1 ∙ sym (g.by_size over).1)
   | inr few ↦ same_fault a b (same_card _ _ _ _ _ (f.by_card few) (g.by_card few)) (same_why _ _ _ _ _ (f.by_card few) (g.by_card few))
 ]
@@ -104,11 +104,11 @@ unfolding fault_of
 never_too_long number card e = by_tests _ _ _ e
 
 -- an input is too long by its size alone
-pub too_long_by_size : (bytes : List ℕ) (fault : CutFault) → IsFirstFault bytes fault → (fault.why ≡ TooLong) ↔ (max_bytes < length bytes)
+pub too_long_by_size : (bytes : List ℕ) (fault : CutFault) → IsFirstFault bytes fault → (fault.why ≡ TooLong) ↔ (most_bytes < length bytes)
 too_long_by_size bytes fault f = (forth, λ over. (f.by_size over).1)
   where
-    forth : fault.why ≡ TooLong → max_bytes < length bytes
-    forth e = elim (cases_lt max_bytes (length bytes)) [
+    forth : fault.why ≡ TooLong → most_bytes < length bytes
+    forth e = elim (cases_lt most_bytes (length bytes)) [
       | inl over ↦ over
       | inr few ↦ absurd (never_too_long fault.card (line_at (lines_of bytes) fault.card) ((f.by_card few).broken ∙ ap (λ (w : CutWhy). Some w) e))
     ]

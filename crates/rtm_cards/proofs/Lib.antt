@@ -7,3 +7,4 @@ pub mod Cutting
 pub mod Spelled
 pub mod LineLaws
 pub mod FaultLaws
+pub mod DeckParts

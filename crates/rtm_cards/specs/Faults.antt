@@ -3,7 +3,7 @@ use Rattle.std.specs.Prelude.{◌≡◌, ℕ, ◌-◌, ◌<◌, ◌≤◌, nat_l
 use Rattle.rtm_cards.specs.declared.fault.CutWhy.{CutWhy}
 use Rattle.rtm_cards.specs.declared.fault.CutWhy.TheVariants.{TooLong}
 use Rattle.rtm_cards.specs.declared.fault.CutFault.{CutFault}
-use Rattle.rtm_cards.specs.Limits.{max_bytes}
+use Rattle.rtm_cards.specs.Limits.{most_bytes}
 use Rattle.rtm_cards.specs.Lines.{lines_of, line_at, number_at}
 use Rattle.rtm_cards.specs.Rules.{fault_of}
 
@@ -20,16 +20,16 @@ pub record FirstCutFault (lines : List (List ℕ)) (number : ℕ) (why : CutWhy)
 
 -- The bytes are few enough, and no card of theirs breaks a rule.
 pub record HasNoFault (bytes : List ℕ) : Type 0 where
-  pub size : length bytes ≤ max_bytes
+  pub size : length bytes ≤ most_bytes
   pub cards : NoCutFault (lines_of bytes)
 
 -- Too many bytes are refused at the card that holds the first byte too many. Else the fault is that of the least card that
 -- breaks a rule.
 pub record IsFirstFault (bytes : List ℕ) (fault : CutFault) : Type 0 where
-  pub by_size : max_bytes < length bytes → (fault.card ≡ number_at bytes max_bytes) × (fault.why ≡ TooLong)
-  pub by_card : length bytes ≤ max_bytes → FirstCutFault (lines_of bytes) fault.card fault.why
+  pub by_size : most_bytes < length bytes → (fault.card ≡ number_at bytes most_bytes) × (fault.why ≡ TooLong)
+  pub by_card : length bytes ≤ most_bytes → FirstCutFault (lines_of bytes) fault.card fault.why
 
--- how many cards stand before the fault, or in all; of too many bytes no card is looked at
+-- how many cards stand before the fault, or in all; where there are too many bytes, no card is looked at
 abbrev pub lines_before : List ℕ → Option CutFault → ℕ
 lines_before bytes None = length (lines_of bytes)
-lines_before bytes (Some fault) = if nat_lt max_bytes (length bytes) then 0 else fault.card - 1
+lines_before bytes (Some fault) = if nat_lt most_bytes (length bytes) then 0 else fault.card - 1

@@ -5,6 +5,8 @@ pub mod Span
 pub mod Lines
 pub mod Fields
 pub mod Rules
+pub mod View
 pub mod Cards
 pub mod Faults
 pub mod Spelling
+pub mod Split

@@ -3,7 +3,7 @@ use Rattle.std.specs.Prelude.{ℕ, Bool, false, not, ◌&&◌, ◌||◌, ◌==�
 use Rattle.std.specs.List.{list_all}
 use Rattle.rtm_cards.specs.declared.fault.CutWhy.{CutWhy}
 use Rattle.rtm_cards.specs.declared.fault.CutWhy.TheVariants.{OverLimit, BadByte, BadCard}
-use Rattle.rtm_cards.specs.Limits.{max_cards, max_card_bytes}
+use Rattle.rtm_cards.specs.Limits.{most_cards, most_card_bytes}
 use Rattle.rtm_cards.specs.Text.{blank, asterisk}
 use Rattle.rtm_cards.specs.Name.{is_name_field}
 use Rattle.rtm_cards.specs.Fields.{name_of, op_of}
@@ -31,12 +31,12 @@ has_good_fields card = is_name_field (name_of card) && not (length (op_of card) 
 
 -- The card is too long, or its fields are bad, which those of comments and blank cards can't be.
 abbrev pub is_bad_card : List ℕ → Bool
-is_bad_card card = nat_lt max_card_bytes (length card) || not (is_ignored card || has_good_fields card)
+is_bad_card card = nat_lt most_card_bytes (length card) || not (is_ignored card || has_good_fields card)
 
 -- the first rule that the card of that number breaks
 unfoldable pub fault_of : ℕ → List ℕ → Option CutWhy
 fault_of number card =
-    if nat_lt max_cards number then Some OverLimit
+    if nat_lt most_cards number then Some OverLimit
     else (if not (list_all is_printable card) then Some BadByte
     else (if is_bad_card card then Some BadCard
     else None))

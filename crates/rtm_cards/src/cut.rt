@@ -2,7 +2,7 @@
 
 ghost use Rattle.std.specs.Prelude.{◌≡◌, ◌+◌, ◌<◌, ◌≤◌, ◌^◌, ◌∷◌, [], ◌++◌, map, take, length, IsOk, OnOk, IfOk, MatchOption};
 ghost use Rattle.std.specs.List.{AllByRecursion};
-ghost use Rattle.rtm_cards.specs.Limits.{max_bytes};
+ghost use Rattle.rtm_cards.specs.Limits.{most_bytes};
 ghost use Rattle.rtm_cards.specs.Span.{IsWithin, text_of};
 ghost use Rattle.rtm_cards.specs.Lines.{lines_of, line_at, start_of, number_at};
 ghost use Rattle.rtm_cards.specs.Rules.{fault_of};
@@ -12,14 +12,13 @@ ghost use Rattle.rtm_cards.specs.Faults.{HasNoFault, IsFirstFault, lines_before}
 use crate::card::Card;
 use crate::fault::{CardFault, CutFault, CutWhy};
 use crate::fields::fields_of;
+use crate::limits::MOST_BYTES;
 use crate::lines::cut_line;
 use crate::operands::operands_of;
 use crate::rules::{fault_of, is_ignored};
 use crate::span::Span;
 use std::alloc::Global;
-
-/// How many bytes an input has at most.
-pub const MAX_BYTES: usize = 16_777_216;
+use std::marker::Model;
 
 /// The cards of an input up to its first fault.
 #[derive(Debug, Drop)]
@@ -31,6 +30,14 @@ pub struct Cut {
     pub lines: u32,
     /// The first fault, if there is one.
     pub fault: Option<CutFault>,
+}
+
+impl Model for Cut {
+    ghost use Rattle.rtm_cards.specs.View.{CutView};
+
+    ghost Value = { CutView };
+
+    ghost view = { λ a. record { cards = a.cards.items; lines = a.lines; fault = a.fault } };
 }
 
 // The card of that number, which lies on that line.
@@ -79,13 +86,13 @@ fn put_card(
 
 // Cuts an input that isn't too long.
 fn cut_lines(alloc: Global, bytes: &[u8]) -> Result<Cut, CardFault>
-    requires { length bytes.now ≤ max_bytes }
+    requires { length bytes.now ≤ most_bytes }
     ensures fault { IfOk result
         (λ cut. MatchOption cut.fault (HasNoFault bytes.now) (IsFirstFault bytes.now)) }
     ensures lines { IfOk result (λ cut. cut.lines ≡ lines_before bytes.now cut.fault) }
-    ensures cards { IfOk result (λ cut. map (card_text bytes.now) cut.cards.items
+    ensures cards { IfOk result (λ cut. map (card_text bytes.now) cut.cards
         ≡ cards_from 1 (take cut.lines (lines_of bytes.now))) }
-    ensures each { IfOk result (λ cut. AllByRecursion (IsCardOf bytes.now) cut.cards.items) }
+    ensures each { IfOk result (λ cut. AllByRecursion (IsCardOf bytes.now) cut.cards) }
 {
     let mut cards = Vec::new(alloc);
     let mut lines = 0;
@@ -134,18 +141,18 @@ pub fn cut_cards(alloc: Global, bytes: &[u8]) -> Result<Cut, CardFault>
     ensures fault { IfOk result
         (λ cut. MatchOption cut.fault (HasNoFault bytes.now) (IsFirstFault bytes.now)) }
     ensures lines { IfOk result (λ cut. cut.lines ≡ lines_before bytes.now cut.fault) }
-    ensures cards { IfOk result (λ cut. map (card_text bytes.now) cut.cards.items
+    ensures cards { IfOk result (λ cut. map (card_text bytes.now) cut.cards
         ≡ cards_from 1 (take cut.lines (lines_of bytes.now))) }
-    ensures each { IfOk result (λ cut. AllByRecursion (IsCardOf bytes.now) cut.cards.items) }
+    ensures each { IfOk result (λ cut. AllByRecursion (IsCardOf bytes.now) cut.cards) }
 
     // Too many bytes are refused without memory.
-    ensures size { max_bytes < length bytes.now → IsOk result }
+    ensures size { most_bytes < length bytes.now → IsOk result }
 {
-    if bytes.len() <= MAX_BYTES {
+    if bytes.len() <= MOST_BYTES {
         return cut_lines(alloc, bytes);
     }
     let fault = CutFault {
-        card: number_at(bytes, MAX_BYTES),
+        card: number_at(bytes, MOST_BYTES),
         why: CutWhy::TooLong,
     };
     Ok(Cut {

@@ -4,7 +4,7 @@ ghost use Rattle.std.specs.Prelude.{◌≡◌, ◌⊎◌, ◌↔◌, ℕ, ◌+�
 ghost use Rattle.std.specs.List.{flat_map, AllByRecursion};
 ghost use Rattle.rtm_cards.specs.declared.fault.CutFault.{CutFault};
 ghost use Rattle.rtm_cards.specs.declared.fault.CutWhy.TheVariants.{TooLong};
-ghost use Rattle.rtm_cards.specs.Limits.{max_bytes};
+ghost use Rattle.rtm_cards.specs.Limits.{most_bytes};
 ghost use Rattle.rtm_cards.specs.Text.{line_feed};
 ghost use Rattle.rtm_cards.specs.Lines.{lines_of, number_at};
 ghost use Rattle.rtm_cards.specs.Fields.{op_of};
@@ -21,7 +21,7 @@ pub fn each_input_has_one_first_fault()
     ensures one { (bytes : List ℕ) (a b : CutFault) → IsFirstFault bytes a
         → IsFirstFault bytes b → a ≡ b }
     ensures too_long { (bytes : List ℕ) (fault : CutFault) → IsFirstFault bytes fault
-        → ((fault.why ≡ TooLong) ↔ (max_bytes < length bytes)) }
+        → ((fault.why ≡ TooLong) ↔ (most_bytes < length bytes)) }
 {}
 
 /// The lines of an input are the only ones that spell it.

@@ -5,7 +5,7 @@ ghost use Rattle.std.specs.List.{list_all};
 ghost use Rattle.rtm_cards.specs.Name.{is_letter, is_name_byte, is_name};
 
 // How many bytes a name has at most.
-const MAX_NAME_BYTES: usize = 8;
+const MOST_NAME_BYTES: usize = 8;
 
 fn is_letter(byte: u8) -> bool
     ensures { result ≡ is_letter byte }
@@ -33,7 +33,7 @@ pub fn is_name(text: &[u8]) -> bool
 {
     match text {
         [first, rest @ ..] => {
-            is_letter(*first) && rest.len() < MAX_NAME_BYTES && are_name_bytes(rest)
+            is_letter(*first) && rest.len() < MOST_NAME_BYTES && are_name_bytes(rest)
         }
         [] => false,
     }

@@ -6,14 +6,9 @@ ghost use Rattle.rtm_cards.specs.Rules.{is_comment, is_blank_card, is_ignored, i
 
 use crate::fault::CutWhy;
 use crate::fields::fields_of;
+use crate::limits::{MOST_CARD_BYTES, MOST_CARDS};
 use crate::name::is_name;
 use crate::span::Span;
-
-// How many cards an input has at most.
-const MAX_CARDS: u32 = 10_000;
-
-// How many bytes a card has at most.
-const MAX_CARD_BYTES: usize = 80;
 
 fn is_comment(card: &[u8]) -> bool
     ensures { result ≡ is_comment card.now }
@@ -52,7 +47,7 @@ fn has_good_fields(card: &[u8]) -> bool
 fn is_bad_card(card: &[u8]) -> bool
     ensures { result ≡ is_bad_card card.now }
 {
-    card.len() > MAX_CARD_BYTES || !(is_ignored(card) || has_good_fields(card))
+    card.len() > MOST_CARD_BYTES || !(is_ignored(card) || has_good_fields(card))
 }
 
 /// The first rule that the card of that number breaks.
@@ -60,7 +55,7 @@ fn is_bad_card(card: &[u8]) -> bool
 pub fn fault_of(number: u32, card: &[u8]) -> Option<CutWhy>
     ensures { result ≡ fault_of number card.now }
 {
-    if number > MAX_CARDS {
+    if number > MOST_CARDS {
         Some(CutWhy::OverLimit)
     } else if !is_printable(card) {
         Some(CutWhy::BadByte)

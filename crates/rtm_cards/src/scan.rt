@@ -1,37 +1,11 @@
-//! Cutting a text at a byte.
+//! Cutting a span at a byte.
 
-ghost use Rattle.std.specs.Prelude.{◌≡◌, ◌≤◌, length, take, drop};
-ghost use Rattle.rtm_cards.specs.Text.{before, from_first, skip_blanks};
+ghost use Rattle.std.specs.Prelude.{◌≡◌, ◌≤◌};
+ghost use Rattle.rtm_text.specs.Cutting.{before, from_first, skip_blanks};
 ghost use Rattle.rtm_cards.specs.Span.{IsWithin, text_of};
 
 use crate::span::Span;
-
-// Where the first byte that is `stop` stands, or the length.
-fn find(text: &[u8], stop: u8) -> usize
-    ensures within { result ≤ length text.now }
-    ensures front { take result text.now ≡ before stop text.now }
-    ensures rest { drop result text.now ≡ from_first stop text.now }
-{
-    for (i, byte) in text.iter().enumerate() {
-        if *byte == stop {
-            return i;
-        }
-    }
-    text.len()
-}
-
-// How many blanks the text begins with.
-fn count_blanks(text: &[u8]) -> usize
-    ensures within { result ≤ length text.now }
-    ensures rest { drop result text.now ≡ skip_blanks text.now }
-{
-    for (i, byte) in text.iter().enumerate() {
-        if *byte != b' ' {
-            return i;
-        }
-    }
-    text.len()
-}
+use rtm_text::{count_blanks, find};
 
 /// Cuts a span in two at its first byte that is `stop`: the second half begins with that byte.
 #[tactic(auto, using(crate::proofs::Spans::part_rest))]

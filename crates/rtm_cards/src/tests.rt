@@ -170,9 +170,9 @@ fn keeps_the_number_of_cards(rt: HostRuntime) -> Result<(), Fail> {
 #[test]
 fn keeps_the_number_of_bytes(rt: HostRuntime) -> Result<(), Fail> {
     let cases: [(&[u8], usize, u32, u32, CutWhy); 3] = [
-        (b"*", MAX_BYTES + 1, 0, 1, CutWhy::TooLong),
-        (b"*\n9X\n", MAX_BYTES + 1, 0, 3, CutWhy::TooLong),
-        (b"*\n9X\n", MAX_BYTES, 1, 2, CutWhy::BadCard),
+        (b"*", MOST_BYTES + 1, 0, 1, CutWhy::TooLong),
+        (b"*\n9X\n", MOST_BYTES + 1, 0, 3, CutWhy::TooLong),
+        (b"*\n9X\n", MOST_BYTES, 1, 2, CutWhy::BadCard),
     ];
     for (start, len, lines, card, why) in cases {
         let bytes = text_of_length(rt.alloc(), start, b'*', len)?;
@@ -209,16 +209,4 @@ fn states_laws() {
     each_input_has_one_first_fault();
     lines_spell_their_input();
     fields_spell_their_card();
-}
-
-fn is_send<T: Send>() {}
-
-#[test]
-fn types_can_be_sent() {
-    is_send::<Span>();
-    is_send::<Card>();
-    is_send::<CutWhy>();
-    is_send::<CutFault>();
-    is_send::<Cut>();
-    is_send::<CardFault>();
 }

@@ -2,25 +2,23 @@
 
 ghost use Rattle.std.specs.Prelude.{◌≡◌, ◌≤◌, ◌==◌, ◌||◌, ◌↔◌, nat_le, not, [], ◌∷◌, length, reverse, filter, vec_capacity, IfOk, IfSome, IfNone, IsErr, OnOk, OnErr, None};
 ghost use Rattle.std.specs.Option.{ok_or};
-ghost use Rattle.rtm_model.specs.Births.{routine_born_at, without_newer_owners};
+ghost use Rattle.rtm_model.specs.OwnChange.{routine_born_at, without_newer_owners};
 ghost use Rattle.rtm_model.specs.Chains.{is_of_depth, is_of_owner, newest_of, newest_owned, if_of_owner, next_estae, after_cancel, after_overlay, without_first, with_in_place, without_born, without_depth, without_owner, after_xctl};
+ghost use Rattle.rtm_model.specs.Limits.{most_estaes};
 ghost use Rattle.rtm_chains.specs.Newest.{IsNewestOwned};
 ghost use Rattle.rtm_chains.specs.Refused.{not_owned};
 
 use crate::refused::NotOwned;
 use crate::routine::{self, Routine};
 use rtm_codes::NoMemory;
-use rtm_model::{Full, Reg};
+use rtm_model::{Full, MOST_ESTAES, Reg};
 use std::alloc::Global;
 use std::marker::Model;
 
-// At most this many living ESTAE routines of a unit (this profile).
-const MOST_ESTAES: usize = 64;
-
-/// The ESTAE routines of a unit (Authorized Assembler Services Guide, "Providing recovery"), at most 64 (this profile).
+/// The ESTAE routines of a unit (Authorized Assembler Services Guide, "Providing recovery"), at most `MOST_ESTAES`.
 ///
 /// A contract sees the chain as the list of its routines, newest first. A depth is 0 for the outermost bracket of the
-/// unit and one more for each inner one, at most 15. An owner is the birth of the request block that made the routine,
+/// unit and one more for each inner one, at most `DEEPEST`. An owner is the birth of the request block that made the routine,
 /// and a routine's own birth the index of the entry that made it.
 #[derive(Drop)]
 pub struct EstaeChain {
@@ -30,12 +28,14 @@ pub struct EstaeChain {
 impl Model for EstaeChain {
     ghost use Rattle.std.specs.Prelude.{◌≤◌, List, length, reverse, vec_capacity};
     ghost use Rattle.rtm_model.specs.declared.reg.Reg.{Reg};
+    ghost use Rattle.rtm_model.specs.Limits.{most_estaes};
 
     ghost Value = { List Reg };
 
     ghost view = { λ a. reverse a.list.items };
 
-    ghost invariant = { λ a. (length a.list.items ≤ 64) × (64 ≤ vec_capacity a.list) };
+    ghost invariant = { λ a. (length a.list.items ≤ most_estaes)
+        × (most_estaes ≤ vec_capacity a.list) };
 }
 
 fn drop_depth(list: &mut Vec<Routine>, depth: u8)
@@ -63,7 +63,8 @@ fn drop_newer_owners(list: &mut Vec<Routine>, born: u32)
 }
 
 fn drop_at_xctl(list: &mut Vec<Routine>, owner: u32)
-    ensures items { list.new.items ≡ filter (λ reg. not (is_of_owner owner reg) || reg.xctl) list.old.items }
+    ensures items { list.new.items
+        ≡ filter (λ reg. not (is_of_owner owner reg) || reg.xctl) list.old.items }
     ensures shorter { length list.new.items ≤ length list.old.items }
     ensures capacity { vec_capacity list.new ≡ vec_capacity list.old }
 {
@@ -92,7 +93,7 @@ fn owned_index(list: &[Routine], depth: u8, owner: u32) -> Option<usize>
 }
 
 impl EstaeChain {
-    /// A chain with no routine, and room for 64.
+    /// A chain with no routine, and room for as many as may be.
     pub fn with_room(alloc: Global) -> Result<EstaeChain, NoMemory>
         ensures { IfOk result (λ chain. chain ≡ []) }
     {
@@ -103,14 +104,14 @@ impl EstaeChain {
 
     /// Whether there are as many routines as there may be, so that ESTAEX CT is the error EE2 (this profile).
     pub fn is_full(&self) -> bool
-        ensures { result ≡ (length self.now == 64) }
+        ensures { result ≡ (length self.now == most_estaes) }
     {
         self.list.len() == MOST_ESTAES
     }
 
-    /// ESTAEX CT: one more routine, the newest. `Full` where 64 are there.
+    /// ESTAEX CT: one more routine, the newest. `Full` where as many are there as may be.
     pub fn create(&mut self, reg: Reg) -> Result<(), Full>
-        ensures full { IsErr result ↔ (length self.old ≡ 64) }
+        ensures full { IsErr result ↔ (length self.old ≡ most_estaes) }
         ensures ok { OnOk result (self.new ≡ reg ∷ self.old) }
         ensures err { OnErr result (self.new ≡ self.old) }
     {

@@ -1,7 +1,7 @@
 //! The ESTAI routines of a unit.
 
 ghost use Rattle.std.specs.Prelude.{◌≡◌, ◌≤◌, ◌==◌, not, [], length, filter, vec_capacity, IfOk};
-ghost use Rattle.rtm_model.specs.Births.{routine_born_at};
+ghost use Rattle.rtm_model.specs.OwnChange.{routine_born_at};
 ghost use Rattle.rtm_model.specs.Chains.{next_estai, inherited_estais, without_born};
 
 use crate::routine::{self, Routine};

@@ -2,24 +2,22 @@
 
 ghost use Rattle.std.specs.Prelude.{◌≡◌, ◌≤◌, ◌==◌, ◌↔◌, not, [], ◌∷◌, length, filter, IsErr, OnOk, OnErr};
 ghost use Rattle.std.specs.Option.{ok_or};
-ghost use Rattle.rtm_model.specs.Births.{routine_born_at};
+ghost use Rattle.rtm_model.specs.OwnChange.{routine_born_at};
 ghost use Rattle.rtm_model.specs.Chains.{is_of_depth, newest_of, without_first, with_in_place, without_born, without_depth};
+ghost use Rattle.rtm_model.specs.Limits.{most_frrs};
 ghost use Rattle.rtm_chains.specs.Refused.{empty};
 
 use crate::refused::Empty;
 use crate::routine::{self, Routine};
 use arrayvec::ArrayVec;
-use rtm_model::{Full, Reg};
+use rtm_model::{Full, MOST_FRRS, Reg};
 use std::marker::Model;
 
-// At most this many living FRRs of a unit (this profile).
-const MOST_FRRS: usize = 16;
-
-/// The functional recovery routines of a unit (Authorized Assembler Services Guide, "Providing recovery"), at most 16
-/// (this profile).
+/// The functional recovery routines of a unit (Authorized Assembler Services Guide, "Providing recovery"), at most
+/// `MOST_FRRS`.
 ///
 /// A contract sees the stack as the list of its routines, newest first. A depth is 0 for the outermost bracket of the
-/// unit and one more for each inner one, at most 15. A birth is the index of the entry that made the routine.
+/// unit and one more for each inner one, at most `DEEPEST`. A birth is the index of the entry that made the routine.
 #[derive(Drop)]
 pub struct FrrStack {
     list: ArrayVec<Routine, MOST_FRRS>,
@@ -28,12 +26,13 @@ pub struct FrrStack {
 impl Model for FrrStack {
     ghost use Rattle.std.specs.Prelude.{◌≤◌, List, length, reverse};
     ghost use Rattle.rtm_model.specs.declared.reg.Reg.{Reg};
+    ghost use Rattle.rtm_model.specs.Limits.{most_frrs};
 
     ghost Value = { List Reg };
 
     ghost view = { λ a. reverse a.list.items };
 
-    ghost invariant = { λ a. length a.list.items ≤ 16 };
+    ghost invariant = { λ a. length a.list.items ≤ most_frrs };
 }
 
 fn drop_depth(list: &mut ArrayVec<Routine, MOST_FRRS>, depth: u8)
@@ -69,14 +68,14 @@ impl FrrStack {
 
     /// Whether there are as many FRRs as there may be, so that SETFRR A is the error 07D (this profile).
     pub fn is_full(&self) -> bool
-        ensures { result ≡ (length self.now == 16) }
+        ensures { result ≡ (length self.now == most_frrs) }
     {
         self.list.is_full()
     }
 
-    /// SETFRR A: one more FRR, the newest. `Full` where 16 are there.
+    /// SETFRR A: one more FRR, the newest. `Full` where as many are there as may be.
     pub fn add(&mut self, reg: Reg) -> Result<(), Full>
-        ensures full { IsErr result ↔ (length self.old ≡ 16) }
+        ensures full { IsErr result ↔ (length self.old ≡ most_frrs) }
         ensures ok { OnOk result (self.new ≡ reg ∷ self.old) }
         ensures err { OnErr result (self.new ≡ self.old) }
     {

@@ -6,6 +6,7 @@ mod estai_list;
 mod frr_stack;
 mod refused;
 mod routine;
+mod send;
 #[cfg(test)]
 mod tests;
 
@@ -14,3 +15,4 @@ pub use estai_list::EstaiList;
 pub use frr_stack::FrrStack;
 pub use refused::{Empty, NotOwned};
 pub use rtm_model::{Full, Kind, Reg};
+pub use send::types_are_send;

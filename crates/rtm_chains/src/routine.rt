@@ -1,9 +1,9 @@
 //! What a list of routines holds, and walks along such a list: the oldest stands first, the newest last.
 
 ghost use Rattle.std.specs.Prelude.{◌≡◌, ◌<◌, ◌==◌, ◌&&◌, ◌||◌, nat_le, not, length, reverse, find, position, slice_index_or, slice_set, IfSome, IfNone};
-ghost use Rattle.rtm_model.specs.Births.{routine_born_at};
+ghost use Rattle.rtm_model.specs.OwnChange.{routine_born_at};
 ghost use Rattle.rtm_model.specs.Chains.{is_of_depth, is_of_owner, is_admitted, if_of_owner, newest_of, next_estae, next_estai};
-ghost use Rattle.rtm_chains.specs.Newest.{IsNewest, IsAbsent};
+ghost use Rattle.rtm_model.specs.inner.Newest.{IsNewest, IsAbsent};
 
 use rtm_model::{Kind, Reg};
 use std::marker::Model;

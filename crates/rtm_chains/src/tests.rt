@@ -3,15 +3,6 @@
 use crate::{EstaeChain, EstaiList, FrrStack, Full, Kind, NotOwned, Reg};
 use std::test::Fail;
 
-fn is_send<T: Send>() {}
-
-#[test]
-fn lists_may_move_to_another_thread() {
-    is_send::<FrrStack>();
-    is_send::<EstaeChain>();
-    is_send::<EstaiList>();
-}
-
 fn routine(kind: Kind, born: u32, owner: u32, depth: u8) -> Reg {
     Reg {
         kind,

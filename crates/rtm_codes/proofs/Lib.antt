@@ -1,4 +1,3 @@
 pub mod Codes
-pub mod Digits
 pub mod Spellings
 pub mod Written

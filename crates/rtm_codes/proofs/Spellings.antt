@@ -9,21 +9,7 @@ use Rattle.rtm_codes.specs.declared.code.Code.{Code}
 use Rattle.rtm_codes.specs.declared.code.Code.TheVariants.{Sys, User}
 use Rattle.rtm_codes.specs.Code.{IsInRange, SpellsNumber, Spells}
 use Rattle.rtm_codes.specs.Reading.{below, number_after, system_number_in, user_number_in, code_in}
-use Rattle.rtm_codes.proofs.Digits.{below-Some, below-lt, number_after-spelled, number_after-Some}
-
--- digits that spell a number are read as it, with nothing before them
-number_after-whole : (base n : ℕ) (digits : List ℕ) → base ≤ 16 →
-    SpellsNumber base digits n → number_after base 0 digits ≡ Some n
-number_after-whole base n digits small s =
-    number_after-spelled base 0 n digits small s ∙ ap Some (omega arith)
-
--- digits that are read as a number, with nothing before them, spell it
-whole-number_after : (base n : ℕ) (digits : List ℕ) →
-    number_after base 0 digits ≡ Some n → SpellsNumber base digits n
-whole-number_after base n digits e =
-    let r = number_after-Some base 0 n digits e in
-    let same : r.number ≡ n = omega (arith, r.sum) in
-    subst (λ (m : ℕ). SpellsNumber base digits m) same r.spelled
+use Rattle.rtm_text.proofs.DigitLaws.{below-Some, below-lt, number_after-whole, whole-number_after, SpellsNumber-lt}
 
 -- a text that spells a code is read as that code
 pub code_in-spelled : (text : List ℕ) (code : Code) → Spells text code → code_in text ≡ Some code
@@ -97,14 +83,6 @@ Spells-code_in (letter ∷ digits) code e = by_letter letter digits code (eqb le
 -- a text spells one code at most
 pub Spells-one : (text : List ℕ) (c d : Code) → Spells text c → Spells text d → c ≡ d
 Spells-one text c d s t = same_Some c d (sym (code_in-spelled text c s) ∙ code_in-spelled text d t)
-
--- k digits write a number below base ^ k
-pub SpellsNumber-lt : (base n : ℕ) (digits : List ℕ) → SpellsNumber base digits n → n < base ^ length digits
-SpellsNumber-lt base n [] s = rw pow-zero (omega (arith, s))
-SpellsNumber-lt base n (byte ∷ bytes) s =
-    let power = base ^ length bytes in
-    let step : s.0 * power + s.1 < power * base = mul-add-lt s.0 power s.1 base s.2.0 (SpellsNumber-lt base s.1 bytes s.3) in
-    rw pow-succ' (omega (arith, step, s.4))
 
 -- a code that is spelled is in range
 pub Spells-in_range : (text : List ℕ) (code : Code) → Spells text code → IsInRange code

@@ -8,7 +8,8 @@ use Rattle.std.proofs.Math.Nat.{pow-zero}
 use Rattle.rtm_codes.specs.declared.code.Code.{Code}
 use Rattle.rtm_codes.specs.declared.code.Code.TheVariants.{Sys, User}
 use Rattle.rtm_codes.specs.Code.{digit_char, text_of, short_of, IsInRange, IsDigit, SpellsNumber, Spells, IsDigitOrCapital, IsVisible}
-use Rattle.rtm_codes.proofs.Spellings.{Spells-one, SpellsNumber-lt}
+use Rattle.rtm_codes.proofs.Spellings.{Spells-one}
+use Rattle.rtm_text.proofs.DigitLaws.{SpellsNumber-lt}
 
 -- Each proof that digits spell a number gives, for the first digit, its value, the number of the others,
 -- that it is a digit, that the others spell that number, and the sum.

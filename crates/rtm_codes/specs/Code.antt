@@ -1,7 +1,8 @@
 -- What a completion code is, how it is written, and which word stands for it.
-use Rattle.std.specs.Prelude.{◌≡◌, ℕ, ◌+◌, ◌*◌, ◌/◌, ◌%◌, ◌^◌, ◌<◌, ◌≤◌, ◌⊎◌, Bool, false, ◌==◌, nat_lt, nat_le, if◌then◌else◌, List, [], ◌∷◌, length, map}
+use Rattle.std.specs.Prelude.{◌≡◌, ℕ, ◌+◌, ◌*◌, ◌/◌, ◌%◌, ◌<◌, ◌≤◌, ◌⊎◌, Bool, false, ◌==◌, nat_lt, nat_le, if◌then◌else◌, List, [], ◌∷◌, length, map}
 use Rattle.rtm_codes.specs.declared.code.Code.{Code}
 use Rattle.rtm_codes.specs.declared.code.Code.TheVariants.{Sys, User}
+pub use Rattle.rtm_text.specs.Digits.{digit_char, IsDigit, SpellsNumber}
 
 -- the number of a code
 abbrev pub number_of : Code → ℕ
@@ -32,10 +33,6 @@ system_letter = 83
 abbrev pub user_letter : ℕ
 user_letter = 85
 
--- the character of a digit: 0 to 9 from 48 on, and then the capitals A to F from 65 on
-abbrev pub digit_char : ℕ → ℕ
-digit_char d = if nat_lt d 10 then 48 + d else 55 + d
-
 -- The text of a code in traces (this profile): S and three hexadecimal digits, or U and four decimal
 -- digits.
 abbrev pub text_of : Code → List ℕ
@@ -53,17 +50,6 @@ short_of (User n) =
     else if nat_lt n 1000
     then user_letter ∷ map digit_char ((n / 100) ∷ (n / 10 % 10) ∷ (n % 10) ∷ [])
     else text_of (User n)
-
--- the byte is the character of the digit, which is below the base
-abbrev pub IsDigit : ℕ → ℕ → ℕ → Type 0
-IsDigit base byte digit = (digit < base) × (byte ≡ digit_char digit)
-
--- the bytes are digits in the base, the most significant first, and n is the number that they write
-abbrev pub SpellsNumber : ℕ → List ℕ → ℕ → Type 0
-SpellsNumber base [] n = n ≡ 0
-SpellsNumber base (byte ∷ bytes) n =
-    (digit : ℕ) × (rest : ℕ) × IsDigit base byte digit × SpellsNumber base bytes rest
-    × (n ≡ digit * base ^ length bytes + rest)
 
 -- The text is a spelling of the code (this profile): S and three hexadecimal digits, or U and one
 -- to four decimal digits of at most 4095, with or without leading zeros.

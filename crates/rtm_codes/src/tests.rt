@@ -1,9 +1,6 @@
 //! Completion codes, as texts and as words.
 
-use crate::{
-    Code, NoMemory, code_short, code_text, is_in_range, laws, packed, read_code, unpacked,
-};
-use std::alloc::{AllocError, AllocFailed};
+use crate::{Code, code_short, code_text, is_in_range, laws, packed, read_code, unpacked};
 
 #[test]
 fn reads_texts(rt: HostRuntime) {
@@ -88,30 +85,6 @@ fn packs_and_unpacks_words(rt: HostRuntime) {
     for word in others {
         assert_eq!(rt; unpacked(word), None, "at {word:08x}");
     }
-}
-
-fn is_send<T: Send>() {}
-
-#[test]
-fn public_types_are_send() {
-    is_send::<Code>();
-    is_send::<NoMemory>();
-}
-
-fn first_error() -> Result<(), NoMemory> {
-    Err(AllocError)?;
-    Ok(())
-}
-
-fn second_error() -> Result<(), NoMemory> {
-    Err(AllocFailed { value: 7u8 })?;
-    Ok(())
-}
-
-#[test]
-fn want_of_memory_converts(rt: HostRuntime) {
-    assert_eq!(rt; first_error(), Err(NoMemory));
-    assert_eq!(rt; second_error(), Err(NoMemory));
 }
 
 #[test]

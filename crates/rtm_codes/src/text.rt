@@ -1,12 +1,13 @@
 //! The text of a completion code, read and written.
 
-ghost use Rattle.std.specs.Prelude.{◌≡◌, ◌<◌, ◌≤◌, Some, IfSome, IfNone, length};
+ghost use Rattle.std.specs.Prelude.{◌≡◌, ◌<◌, ◌^◌, Some, IfSome, IfNone};
 ghost use Rattle.rtm_codes.specs.declared.code.Code.{Code};
-ghost use Rattle.rtm_codes.specs.Code.{IsInRange, Spells, digit_char, short_of, text_of};
-ghost use Rattle.rtm_codes.specs.Reading.{code_in, digit_in, number_after, system_number_in, user_number_in};
+ghost use Rattle.rtm_codes.specs.Code.{IsInRange, Spells, short_of, text_of};
+ghost use Rattle.rtm_codes.specs.Reading.{code_in, system_number_in, user_number_in};
 
 use crate::code::{Code, GREATEST_NUMBER};
 use arrayvec::ArrayVec;
+use rtm_text::{character, number_in};
 
 /// The code that a text spells (this profile): `S` and three hexadecimal digits, in capitals from A
 /// on, or `U` and one to four decimal digits of at most 4095, where leading zeros are allowed.
@@ -35,16 +36,16 @@ pub fn code_text(code: Code) -> ArrayVec<u8, 5>
     match code {
         Code::Sys(number) => {
             text.push(b'S');
-            text.push(character(number / 256));
-            text.push(character(number / 16 % 16));
-            text.push(character(number % 16));
+            text.push(character(u32::from(number / 256)));
+            text.push(character(u32::from(number / 16 % 16)));
+            text.push(character(u32::from(number % 16)));
         }
         Code::User(number) => {
             text.push(b'U');
-            text.push(character(number / 1000));
-            text.push(character(number / 100 % 10));
-            text.push(character(number / 10 % 10));
-            text.push(character(number % 10));
+            text.push(character(u32::from(number / 1000)));
+            text.push(character(u32::from(number / 100 % 10)));
+            text.push(character(u32::from(number / 10 % 10)));
+            text.push(character(u32::from(number % 10)));
         }
     }
     text
@@ -69,12 +70,12 @@ fn short_user_text(number: u16) -> ArrayVec<u8, 5>
     let mut text = ArrayVec::new();
     text.push(b'U');
     if number >= 100 {
-        text.push(character(number / 100));
+        text.push(character(u32::from(number / 100)));
     }
     if number >= 10 {
-        text.push(character(number / 10 % 10));
+        text.push(character(u32::from(number / 10 % 10)));
     }
-    text.push(character(number % 10));
+    text.push(character(u32::from(number % 10)));
     text
 }
 
@@ -93,7 +94,7 @@ fn system_number(digits: &[u8]) -> Option<u16>
     ensures { result ≡ system_number_in digits.now }
 {
     if digits.len() == 3 {
-        number(digits, 16)
+        narrow(number_in(digits, 16))
     } else {
         None
     }
@@ -105,43 +106,16 @@ fn user_number(digits: &[u8]) -> Option<u16>
     if digits.is_empty() || digits.len() > 4 {
         return None;
     }
-    number(digits, 10).filter(|number| *number <= GREATEST_NUMBER)
+    narrow(number_in(digits, 10)).filter(|number| *number <= GREATEST_NUMBER)
 }
 
-// The number of at most four digits in the base, the most significant first.
-fn number(digits: &[u8], base: u16) -> Option<u16>
-    requires few_digits { length digits.now ≤ 4 }
-    requires small_base { base ≤ 16 }
-    ensures { result ≡ number_after base 0 digits.now }
+// The same number in 16 bits.
+fn narrow(number: Option<u64>) -> Option<u16>
+    requires { IfSome number (λ n. n < 2 ^ 16) }
+    ensures { result ≡ number }
 {
-    let mut number = 0;
-    for byte in digits {
-        number = number * base + digit(*byte, base)?;
-    }
-    Some(number)
-}
-
-// The digit that the byte stands for in the base.
-fn digit(byte: u8, base: u16) -> Option<u16>
-    ensures value { result ≡ digit_in base byte }
-    ensures below_base { IfSome result (λ digit. digit < base) }
-{
-    let digit = match byte {
-        b'0'..=b'9' => u16::from(byte - b'0'),
-        b'A'..=b'F' => u16::from(byte - b'A') + 10,
-        _ => return None,
-    };
-    if digit < base { Some(digit) } else { None }
-}
-
-// The character of a digit: 0 to 9, and then A to F.
-fn character(digit: u16) -> u8
-    requires { digit < 16 }
-    ensures { result ≡ digit_char digit }
-{
-    if digit < 10 {
-        b'0' + digit as u8
-    } else {
-        b'A' + (digit - 10) as u8
+    match number {
+        None => None,
+        Some(number) => Some(number as u16),
     }
 }

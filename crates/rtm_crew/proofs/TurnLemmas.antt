@@ -1,18 +1,17 @@
 -- Turns: one of them makes the entry that the definition gives, and all of them the whole history.
 use Rattle.std.proofs.Common.{◌≡◌, ℕ, zero, suc, ◌+◌, ◌-◌, ◌<◌, ◌≤◌, List, [], ◌∷◌, ◌++◌, length, Option, Some, None, refl, sym, ap, ◌∙◌, arith}
-use Rattle.std.specs.Prelude.{IsSome, if◌then◌else◌, is_some}
+use Rattle.std.specs.Prelude.{if◌then◌else◌, is_some}
 use Rattle.std.proofs.lemmas.List.{append_assoc, append-nil, length-append}
 use Rattle.rtm_deck_items.specs.View.{DeckView}
 use Rattle.rtm_model.specs.declared.entry.End.{End}
 use Rattle.rtm_model.specs.declared.entry.Entry.{Entry}
-use Rattle.rtm_model.specs.Births.{advance, world}
+use Rattle.rtm_model.specs.Advance.{advance, world}
 use Rattle.rtm_model.specs.Legal.{end_in, end_of}
 use Rattle.rtm_model.specs.Turns.{seq, seq_from, seq_more, seq_step, turn_after}
 use Rattle.rtm_model.specs.World.{World, start}
 use Rattle.rtm_law_sound.proofs.Histories.{world-append, world-nil}
 use Rattle.rtm_system.specs.Turned.{IsNext, turn_in, turn_of}
 use Rattle.rtm_system.specs.View.{SystemView}
-use Rattle.rtm_system.proofs.Rounds.{nothing_ends}
 
 -- what one turn adds, and that nothing follows where it is nobody's
 made_by : (o : Option End) (s : Option Entry) (rest : Entry → List Entry) (e : Entry) → (if is_some o then None else s) ≡ Some e → seq_more o s rest ≡ e ∷ rest e
@@ -57,13 +56,15 @@ seq_ended : (d : DeckView) (w : World) (n u k : ℕ) → turn_in d w n u ≡ Non
 seq_ended d w n u zero e = refl
 seq_ended d w n u (suc k) e = ended_by (end_in d w n) (seq_step d w n u) (λ x. seq_from d (advance d w n x) (n + 1) (turn_after d u x.unit x.what) k) e
 
+-- where the history has an end it is nobody's turn
+pub nobodys_turn : (v : SystemView) (u : ℕ) (end : End) → end_of v.deck v.trace ≡ Some end → turn_of v.deck v.trace u ≡ None
+nobodys_turn v u end e =
+    ap (λ (o : Option End). if is_some o then None else seq_step v.deck (world v.deck v.trace) (length v.trace) u) e
+
 -- nobody's turn: all is made
 pub all_made : (v : SystemView) (u : ℕ) (total : List Entry) → turn_of v.deck v.trace u ≡ None → made_and_left v u ≡ total → v.trace ≡ total
 all_made v u total e so_far =
     sym (append-nil v.trace) ∙ ap (λ (es : List Entry). v.trace ++ es) (sym (seq_ended v.deck (world v.deck v.trace) (length v.trace) u (v.deck.limit - length v.trace) e)) ∙ so_far
-
-pub has_end : (v : SystemView) (u : ℕ) → u ≤ length v.deck.units → turn_of v.deck v.trace u ≡ None → IsSome (end_of v.deck v.trace)
-has_end v u h e = nothing_ends v.deck (world v.deck v.trace) (length v.trace) u h e
 
 -- at the start all is left
 pub all_left : (v : SystemView) → v.trace ≡ [] → made_and_left v 0 ≡ seq v.deck

@@ -1,5 +1,6 @@
 -- The deck that cards say, whose names are all there.
-use Rattle.std.specs.Prelude.{ℕ, ◌+◌, if◌then◌else◌, List, [], ◌∷◌, Option, Some, None, unwrap_or, filter_map}
+use Rattle.std.specs.Prelude.{ℕ, ◌+◌, Bool, true, if◌then◌else◌, List, [], ◌∷◌, Option, Some, None, unwrap_or, filter_map}
+use Rattle.rtm_cards.specs.Limits.{default_entries}
 use Rattle.rtm_deck_items.specs.declared.deck.Line.{Line as LineCard}
 use Rattle.rtm_deck_items.specs.declared.deck.Unit.{Unit as UnitCard}
 use Rattle.rtm_deck_items.specs.declared.deck.Command.{Command as CommandCard}
@@ -58,19 +59,20 @@ command_in s _ r = None
 abbrev pub commands_from : SeenView → List ReadView → List CommandCard
 commands_from s reads = filter_map (λ r. command_in s (role_of r.form) r) reads
 
-abbrev pub limit_with : Role → ReadView → ℕ → ℕ
-limit_with Region r others = number_at r.values 0
-limit_with _ r others = others
+abbrev pub region_with : Role → ReadView → ℕ × Bool → ℕ × Bool
+region_with Region r others = (number_at r.values 0, flag_at r.values 1)
+region_with _ r others = others
 
--- the limit of entries: REGION's, or the default
-abbrev pub limit_from : List ReadView → ℕ
-limit_from [] = 20000
-limit_from (r ∷ rs) = limit_with (role_of r.form) r (limit_from rs)
+-- the limit of entries and whether routines get an SDWA: of REGION, or the defaults
+abbrev pub region_from : List ReadView → ℕ × Bool
+region_from [] = (default_entries, true)
+region_from (r ∷ rs) = region_with (role_of r.form) r (region_from rs)
 
 -- the deck
 abbrev pub deck_of : ScanView → DeckView
 deck_of t = record {
-  limit = limit_from t.reads;
+  limit = (region_from t.reads).0;
+  sdwa = (region_from t.reads).1;
   programs = programs_from t.seen t.reads;
   units = units_from t.seen t.reads;
   commands = commands_from t.seen t.reads;

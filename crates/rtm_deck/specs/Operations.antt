@@ -1,6 +1,6 @@
 -- What a card does, by its form and the values of its operands.
 use Rattle.std.specs.Prelude.{ℕ, Bool, false, nat_lt, if◌then◌else◌, List, [], ◌∷◌, Option, Some, None, unwrap_or, option_map, position, bytes_eq, slice_get}
-use Rattle.std.specs.Option.{option_flatten}
+use Rattle.std.specs.Option.{option_flatten, option_or}
 use Rattle.rtm_codes.specs.declared.code.Code.{Code}
 use Rattle.rtm_codes.specs.declared.code.Code.TheVariants.{Sys}
 use Rattle.rtm_deck_operands.specs.declared.value.Value.{Value}
@@ -69,7 +69,7 @@ class_at vs i = unwrap_or (class_in (value_at vs i)) classes.Enq
 abbrev pub reason_at : List (Option Value) → ℕ → Option ℕ
 reason_at vs i = reason_in (value_at vs i)
 
--- eight blanks, where no name stands
+-- a name that stands where a card gives none; no card that was read leaves it so
 abbrev pub no_name : List ℕ
 no_name = 64 ∷ 32 ∷ 32 ∷ 32 ∷ 32 ∷ 32 ∷ 32 ∷ 32 ∷ []
 
@@ -100,68 +100,53 @@ setrp_of vs = record {
   fresdwa = flag_in (value_at vs 7);
 }
 
--- what a card does by itself, or with a program as its next
-abbrev pub plain_op : SeenView → CardForm → List (Option Value) → Op
-plain_op s forms.Nop vs = ops.Nop
-plain_op s forms.Get vs = ops.Get (class_at vs 0) (number_at vs 1)
-plain_op s forms.Free vs = ops.Free (class_at vs 0) (number_at vs 1)
-plain_op s forms.Link vs = ops.Link (named_number_at s.programs vs 0)
-plain_op s forms.Xctl vs = ops.Xctl (named_number_at s.programs vs 0)
-plain_op s forms.Return vs = ops.Return
-plain_op s forms.Abend vs = ops.Abend (code_at vs 0) (reason_at vs 1) (flag_at vs 2) (flag_at vs 3)
-plain_op s forms.Wait vs = ops.Wait (byte_at vs 0)
-plain_op s forms.Post vs = ops.Post (byte_at vs 0)
-plain_op s forms.SetRp vs = ops.SetRp (setrp_of vs)
-plain_op s _ vs = ops.Nop
+-- what a card does by itself, or with a program as its next; none of other cards
+abbrev pub plain_op : SeenView → CardForm → List (Option Value) → Option Op
+plain_op s forms.Nop vs = Some ops.Nop
+plain_op s forms.Get vs = Some (ops.Get (class_at vs 0) (number_at vs 1))
+plain_op s forms.Free vs = Some (ops.Free (class_at vs 0) (number_at vs 1))
+plain_op s forms.Link vs = Some (ops.Link (named_number_at s.programs vs 0))
+plain_op s forms.Xctl vs = Some (ops.Xctl (named_number_at s.programs vs 0))
+plain_op s forms.Return vs = Some ops.Return
+plain_op s forms.Abend vs = Some (ops.Abend (code_at vs 0) (reason_at vs 1) (flag_at vs 2) (flag_at vs 3))
+plain_op s forms.Wait vs = Some (ops.Wait (byte_at vs 0))
+plain_op s forms.Post vs = Some (ops.Post (byte_at vs 0))
+plain_op s forms.SetRp vs = Some (ops.SetRp (setrp_of vs))
+plain_op s forms.Ret15 vs = Some (ops.Ret15 (byte_at vs 0) (name_in (value_at vs 1)))
+plain_op s _ vs = None
 
--- what a card does with a recovery routine or a resource manager
-abbrev pub routine_op : SeenView → CardForm → List (Option Value) → Op
-routine_op s forms.EstaexCt vs = ops.EstaexCt (named_number_at s.programs vs 1) (flag_at vs 2) (flag_at vs 3) (flag_at vs 4)
-routine_op s forms.EstaexOv vs = ops.EstaexOv (named_number_at s.programs vs 1) (flag_at vs 2) (flag_at vs 3) (flag_at vs 4)
-routine_op s forms.EstaexZero vs = ops.EstaexZero
-routine_op s forms.FrrAdd vs = ops.FrrAdd (named_number_at s.programs vs 1)
-routine_op s forms.FrrDelete vs = ops.FrrDelete
-routine_op s forms.FrrReplace vs = ops.FrrReplace (named_number_at s.programs vs 1)
-routine_op s forms.FrrPurge vs = ops.FrrPurge
-routine_op s forms.MgrAdd vs = ops.MgrAdd (named_number_at s.programs vs 1) (flag_at vs 2)
-routine_op s forms.MgrDelete vs = ops.MgrDelete (named_number_at s.programs vs 1) (flag_at vs 2)
-routine_op s _ vs = ops.Nop
+-- what a card does with a recovery routine or a resource manager; none of other cards
+abbrev pub routine_op : SeenView → CardForm → List (Option Value) → Option Op
+routine_op s forms.EstaexCt vs = Some (ops.EstaexCt (named_number_at s.programs vs 1) (flag_at vs 2) (flag_at vs 3) (flag_at vs 4))
+routine_op s forms.EstaexOv vs = Some (ops.EstaexOv (named_number_at s.programs vs 1) (flag_at vs 2) (flag_at vs 3) (flag_at vs 4))
+routine_op s forms.EstaexZero vs = Some ops.EstaexZero
+routine_op s forms.FrrAdd vs = Some (ops.FrrAdd (named_number_at s.programs vs 1))
+routine_op s forms.FrrDelete vs = Some ops.FrrDelete
+routine_op s forms.FrrReplace vs = Some (ops.FrrReplace (named_number_at s.programs vs 1))
+routine_op s forms.FrrPurge vs = Some ops.FrrPurge
+routine_op s forms.MgrAdd vs = Some (ops.MgrAdd (named_number_at s.programs vs 1) (flag_at vs 2))
+routine_op s forms.MgrDelete vs = Some (ops.MgrDelete (named_number_at s.programs vs 1) (flag_at vs 2))
+routine_op s _ vs = None
 
--- what a card does to a unit of work, or by a label
-abbrev pub unit_op : SeenView → CardForm → List (Option Value) → Op
-unit_op s forms.Attachx vs = ops.Attachx (named_number_at s.units vs 0) None false
-unit_op s forms.AttachxEstai vs = ops.Attachx (named_number_at s.units vs 0) (Some (named_number_at s.programs vs 1)) (flag_at vs 2)
-unit_op s forms.Detach vs = ops.Detach (named_number_at s.units vs 0) (flag_at vs 1)
-unit_op s forms.Abterm vs = ops.Abterm (named_number_at s.units vs 1) (code_at vs 2) (reason_at vs 3) (flag_at vs 4) (flag_at vs 5)
-unit_op s forms.Memterm vs = ops.Memterm (code_at vs 1)
-unit_op s forms.Schedule vs = ops.Schedule (named_number_at s.units vs 0)
-unit_op s forms.WaitTask vs = ops.WaitTask (named_number_at s.units vs 0)
-unit_op s forms.Branch vs = ops.Branch (label_at vs 0)
-unit_op s forms.IfCode vs = ops.IfCode (code_at vs 0) (label_at vs 1)
-unit_op s forms.IfClup vs = ops.IfClup (label_at vs 0)
-unit_op s forms.IfPerc vs = ops.IfPerc (label_at vs 0)
-unit_op s _ vs = ops.Nop
+-- what a card does to a unit of work, or by a label; none of other cards
+abbrev pub unit_op : SeenView → CardForm → List (Option Value) → Option Op
+unit_op s forms.Attachx vs = Some (ops.Attachx (named_number_at s.units vs 0) None false)
+unit_op s forms.AttachxEstai vs = Some (ops.Attachx (named_number_at s.units vs 0) (Some (named_number_at s.programs vs 1)) (flag_at vs 2))
+unit_op s forms.Detach vs = Some (ops.Detach (named_number_at s.units vs 0) (flag_at vs 1))
+unit_op s forms.Abterm vs = Some (ops.Abterm (named_number_at s.units vs 1) (code_at vs 2) (reason_at vs 3) (flag_at vs 4) (flag_at vs 5))
+unit_op s forms.Memterm vs = Some (ops.Memterm (code_at vs 1))
+unit_op s forms.Schedule vs = Some (ops.Schedule (named_number_at s.units vs 0))
+unit_op s forms.WaitTask vs = Some (ops.WaitTask (named_number_at s.units vs 0))
+unit_op s forms.Branch vs = Some (ops.Branch (label_at vs 0))
+unit_op s forms.IfCode vs = Some (ops.IfCode (code_at vs 0) (label_at vs 1))
+unit_op s forms.IfClup vs = Some (ops.IfClup (label_at vs 0))
+unit_op s forms.IfPerc vs = Some (ops.IfPerc (label_at vs 0))
+unit_op s _ vs = None
 
--- what the card does, with the numbers of the programs and units that it names
+-- what the card does, if it is one of a program, with the numbers of the programs and units that it names
+abbrev pub op_in : SeenView → CardForm → List (Option Value) → Option Op
+op_in s form vs = option_or (plain_op s form vs) (option_or (routine_op s form vs) (unit_op s form vs))
+
+-- what a card of a program does
 abbrev pub op_of : SeenView → CardForm → List (Option Value) → Op
-op_of s forms.EstaexCt vs = routine_op s forms.EstaexCt vs
-op_of s forms.EstaexOv vs = routine_op s forms.EstaexOv vs
-op_of s forms.EstaexZero vs = routine_op s forms.EstaexZero vs
-op_of s forms.FrrAdd vs = routine_op s forms.FrrAdd vs
-op_of s forms.FrrDelete vs = routine_op s forms.FrrDelete vs
-op_of s forms.FrrReplace vs = routine_op s forms.FrrReplace vs
-op_of s forms.FrrPurge vs = routine_op s forms.FrrPurge vs
-op_of s forms.MgrAdd vs = routine_op s forms.MgrAdd vs
-op_of s forms.MgrDelete vs = routine_op s forms.MgrDelete vs
-op_of s forms.Attachx vs = unit_op s forms.Attachx vs
-op_of s forms.AttachxEstai vs = unit_op s forms.AttachxEstai vs
-op_of s forms.Detach vs = unit_op s forms.Detach vs
-op_of s forms.Abterm vs = unit_op s forms.Abterm vs
-op_of s forms.Memterm vs = unit_op s forms.Memterm vs
-op_of s forms.Schedule vs = unit_op s forms.Schedule vs
-op_of s forms.WaitTask vs = unit_op s forms.WaitTask vs
-op_of s forms.Branch vs = unit_op s forms.Branch vs
-op_of s forms.IfCode vs = unit_op s forms.IfCode vs
-op_of s forms.IfClup vs = unit_op s forms.IfClup vs
-op_of s forms.IfPerc vs = unit_op s forms.IfPerc vs
-op_of s form vs = plain_op s form vs
+op_of s form vs = unwrap_or (op_in s form vs) ops.Nop

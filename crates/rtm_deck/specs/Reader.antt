@@ -24,6 +24,11 @@ abbrev pub scan_on : ℕ → Result ReadView Why → (ReadView → Result ScanVi
 scan_on number (Err why) others = Err (refusal number why)
 scan_on number (Ok r) others = others r
 
+-- what was read and seen behind one card more
+abbrev pub scan_next : ScanView → CardText → Result ScanView Refusal
+scan_next t c =
+    scan_on c.number (read_card t.seen c) (λ r. Ok (scan_of (t.reads ++ r ∷ []) (after t.seen (role_of r.form) r.name)))
+
 -- the cards behind those that were read, up to the first that breaks a rule of form
 abbrev pub scan : List ReadView → SeenView → List CardText → Result ScanView Refusal
 scan reads s [] = Ok (scan_of reads s)

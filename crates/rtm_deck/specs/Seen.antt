@@ -2,10 +2,11 @@
 use Rattle.std.specs.Prelude.{◌≡◌, ℕ, ◌+◌, Bool, true, false, not, ◌&&◌, ◌||◌, ◌==◌, nat_le, if◌then◌else◌, List, [], ◌∷◌, ◌++◌, length, Option, Some, None, bytes_eq, Result, Ok, Err}
 use Rattle.std.specs.List.{list_any}
 use Rattle.std.specs.Option.{option_map_or, option_or}
-use Rattle.std.specs.Prelude.{option_map, option_and_then, is_some}
+use Rattle.std.specs.Prelude.{option_map, is_some}
 use Rattle.rtm_deck_operands.specs.declared.value.Value.{Value}
 use Rattle.rtm_deck_operands.specs.declared.slot.Slot.{Slot}
 use Rattle.rtm_deck_operands.specs.Reading.{read_slots, name_in}
+use Rattle.rtm_cards.specs.Limits.{most_programs, most_units, most_commands}
 use Rattle.rtm_cards.specs.Cards.{CardText}
 use Rattle.rtm_deck_items.specs.declared.why.Why.{Why}
 use Rattle.rtm_deck_items.specs.declared.why.Why.TheVariants.{BadCard, UnknownOp, BadOperand, DuplicateName, WrongPlace, NoJobStep, OverLimit}
@@ -73,10 +74,10 @@ is_doubled_name s _ name = false
 
 -- one program, unit or command more than there may be
 abbrev pub is_beyond : SeenView → Role → Bool
-is_beyond s Program = nat_le 256 (length s.programs)
-is_beyond s Task = nat_le 64 (length s.units)
-is_beyond s Srb = nat_le 64 (length s.units)
-is_beyond s Command = nat_le 64 s.commands
+is_beyond s Program = nat_le most_programs (length s.programs)
+is_beyond s Task = nat_le most_units (length s.units)
+is_beyond s Srb = nat_le most_units (length s.units)
+is_beyond s Command = nat_le most_commands s.commands
 is_beyond s _ = false
 
 -- END though no task stands before
@@ -100,14 +101,14 @@ pub record SaidView : Type 0 where
   pub form : CardForm
   pub values : List (Option Value)
 
--- the values, where some value is given or none need be
-abbrev pub values_if_enough : Bool → List (Option Value) → Option (List (Option Value))
-values_if_enough wanted values = if wanted && not (list_any is_some values) then None else Some values
-
 -- the values of an operation's operands; without slots all is a remark
+abbrev pub read_all : List Slot → List (List ℕ) → Option (List (Option Value))
+read_all [] operands = Some []
+read_all (slot ∷ slots) operands = read_slots (slot ∷ slots) operands
+
+-- the same, where operands stand there or none has to
 abbrev pub read_by : List Slot → Bool → List (List ℕ) → Option (List (Option Value))
-read_by [] wanted operands = values_if_enough wanted []
-read_by (slot ∷ slots) wanted operands = option_and_then (values_if_enough wanted) (read_slots (slot ∷ slots) operands)
+read_by slots wanted operands = if wanted && length operands == 0 then None else read_all slots operands
 
 -- the values, where they were read
 abbrev pub values_if_read : Bool → List (Option Value) → Option (List (Option Value))

@@ -1,10 +1,10 @@
 //! Making the deck of cards whose names are all there.
 
-ghost use Rattle.std.specs.Prelude.{◌≡◌, ◌≤◌, length, IfOk, unwrap_or};
+ghost use Rattle.std.specs.Prelude.{◌≡◌, true, ◌≤◌, ◌++◌, [], length, IfOk, OnOk, unwrap_or};
 ghost use Rattle.rtm_deck_items.specs.View.{DeckView};
 ghost use Rattle.rtm_deck.specs.View.{ScanView};
-ghost use Rattle.rtm_deck.specs.Building.{line_of, line_count, lines_from, program_of, programs_from, unit_of, unit_in, units_from, command_in, commands_from, limit_from, deck_of};
-ghost use Rattle.rtm_deck.specs.Roles.{role_of};
+ghost use Rattle.rtm_deck.specs.Building.{line_of, line_count, lines_from, program_of, programs_with, programs_from, unit_of, unit_in, units_from, command_in, commands_from, region_from, deck_of};
+ghost use Rattle.rtm_deck.specs.Roles.{role_of, is_line};
 ghost use Rattle.rtm_deck.specs.Operations.{no_name};
 ghost use Rattle.rtm_deck.specs.Reader.{scan_of};
 
@@ -14,18 +14,17 @@ use crate::operation::{
 };
 use crate::role::{Role, role_of};
 use crate::seen::Seen;
+use rtm_cards::DEFAULT_ENTRIES;
 use rtm_codes::NoMemory;
 use rtm_deck_items::{Command, Line, Name, Program, Unit, UnitKind};
 use std::alloc::Global;
 use std::marker::Model;
 
-// How many entries a history may have where no REGION card says it.
-const DEFAULT_LIMIT: u32 = 20_000;
-
 /// The parts of a deck.
 #[derive(Drop)]
 pub(crate) struct Parts {
     pub(crate) limit: u32,
+    pub(crate) sdwa: bool,
     pub(crate) programs: Vec<Program>,
     pub(crate) units: Vec<Unit>,
     pub(crate) commands: Vec<Command>,
@@ -38,6 +37,7 @@ impl Model for Parts {
 
     ghost view = { λ a. record {
       limit = a.limit;
+      sdwa = a.sdwa;
       programs = a.programs.items;
       units = a.units.items;
       commands = a.commands.items;
@@ -45,6 +45,7 @@ impl Model for Parts {
 }
 
 fn line_of(seen: &Seen, read: &Read) -> Line
+    requires { is_line (role_of read.now.form) ≡ true }
     ensures { result ≡ line_of seen.now read.now }
 {
     Line {
@@ -93,10 +94,25 @@ fn program_of(alloc: Global, seen: &Seen, read: &Read, others: &[Read]) -> Resul
     ensures { IfOk result (λ program. program ≡ program_of seen.now read.now others.now) }
 {
     let lines = lines_of(alloc, seen, others)?;
-    Ok(Program {
-        name: name_of(read),
-        lines,
-    })
+    Program::new(alloc, name_of(read), lines)
+}
+
+// Puts the program that the card begins behind the others, if it begins one.
+fn put_program(
+    programs: &mut Vec<Program>,
+    alloc: Global,
+    seen: &Seen,
+    read: &Read,
+    others: &[Read],
+) -> Result<(), NoMemory>
+    ensures { OnOk result (programs.new.items
+        ≡ programs.old.items ++ programs_with seen.now (role_of read.now.form) read.now others.now []) }
+{
+    if !role_of(read.form).is_program() {
+        return Ok(());
+    }
+    programs.push(program_of(alloc, seen, read, others)?)?;
+    Ok(())
 }
 
 // The programs, in the order of their cards.
@@ -105,9 +121,7 @@ fn programs_of(alloc: Global, seen: &Seen, reads: &[Read]) -> Result<Vec<Program
 {
     let mut programs = Vec::new(alloc);
     for (i, read) in reads.iter().enumerate() {
-        if role_of(read.form).is_program() {
-            programs.push(program_of(alloc, seen, read, &reads[i + 1..])?)?;
-        }
+        put_program(&mut programs, alloc, seen, read, &reads[i + 1..])?;
     }
     Ok(programs)
 }
@@ -175,27 +189,29 @@ fn commands_of(alloc: Global, seen: &Seen, reads: &[Read]) -> Result<Vec<Command
     Ok(commands)
 }
 
-// The limit of entries: REGION's, or the default.
-fn limit_of(reads: &[Read]) -> u32
-    ensures { result ≡ limit_from reads.now }
+// The limit of entries and whether routines get an SDWA: of REGION, or the defaults.
+fn region_of(reads: &[Read]) -> (u32, bool)
+    ensures { result ≡ region_from reads.now }
 {
     for read in reads {
         if role_of(read.form) == Role::Region {
-            return number_at(&read.values, 0);
+            return (number_at(&read.values, 0), flag_at(&read.values, 1));
         }
     }
-    DEFAULT_LIMIT
+    (DEFAULT_ENTRIES, true)
 }
 
 /// The parts of the deck that the cards say.
 pub(crate) fn build(alloc: Global, seen: &Seen, reads: &[Read]) -> Result<Parts, NoMemory>
     ensures { IfOk result (λ parts. parts ≡ deck_of (scan_of reads.now seen.now)) }
 {
+    let (limit, sdwa) = region_of(reads);
     let programs = programs_of(alloc, seen, reads)?;
     let units = units_of(alloc, seen, reads)?;
     let commands = commands_of(alloc, seen, reads)?;
     Ok(Parts {
-        limit: limit_of(reads),
+        limit,
+        sdwa,
         programs,
         units,
         commands,

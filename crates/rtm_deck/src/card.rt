@@ -1,14 +1,14 @@
 //! Reading one card.
 
-ghost use Rattle.std.specs.Prelude.{◌≡◌, ◌≤◌, ℕ, List, length, map, option_map, is_some, Option, Some, None, IfSome};
-ghost use Rattle.std.specs.List.{AllByRecursion, list_any};
+ghost use Rattle.std.specs.Prelude.{◌≡◌, ◌≤◌, ℕ, List, length, map, option_map, Option, Some, None, IfSome};
+ghost use Rattle.std.specs.List.{AllByRecursion};
 ghost use Rattle.rtm_cards.specs.Span.{IsWithin, text_of};
 ghost use Rattle.rtm_cards.specs.Cards.{card_text, HasSpansIn};
 ghost use Rattle.rtm_deck_items.specs.Forms.{form_named, operation_of, needs_some};
 ghost use Rattle.rtm_deck_operands.specs.declared.value.Value.{Value};
 ghost use Rattle.rtm_deck_operands.specs.Slot.{IsWellMade};
 ghost use Rattle.rtm_deck.specs.Roles.{role_of};
-ghost use Rattle.rtm_deck.specs.Seen.{values_if_read, read_by, reading_of, reading_as, reading_in, reading_by, AreEnough, read_in, read_card, read_with, read_known};
+ghost use Rattle.rtm_deck.specs.Seen.{values_if_read, read_all, read_by, reading_of, reading_as, reading_in, reading_by, AreEnough, read_in, read_card, read_with, read_known};
 
 use crate::role::{Role, role_of};
 use crate::seen::Seen;
@@ -32,7 +32,8 @@ impl Model for Read {
 
     ghost Value = { ReadView };
 
-    ghost view = { λ a. record { number = a.number; name = a.name; form = a.form; values = a.values.items } };
+    ghost view = { λ a.
+        record { number = a.number; name = a.name; form = a.form; values = a.values.items } };
 }
 
 static ESTAEX: [CardForm; 3] = [CardForm::EstaexCt, CardForm::EstaexOv, CardForm::EstaexZero];
@@ -60,22 +61,35 @@ fn form_named(op: &[u8]) -> Option<CardForm>
         .find(|form| form.operation() == op)
 }
 
-// Whether a card of that form has to give some value though no operand is needed.
+// Whether some operand has to stand on a card of that form though none is needed.
 fn needs_some(form: CardForm) -> bool
     ensures { result ≡ needs_some form }
 {
-    matches!(form, CardForm::SetRp)
-}
-
-// Whether some value is given.
-fn gives_some(values: &[Option<Value>]) -> bool
-    ensures { result ≡ list_any is_some values.now }
-{
-    values.iter().any(|value| value.is_some())
+    matches!(form, CardForm::Region | CardForm::SetRp)
 }
 
 // Puts the values of a card's operands in place of those that are there, and says whether there are any; without slots
 // all that follows is a remark.
+fn read_all(bytes: &[u8], operands: &[Span], slots: &[Slot], values: &mut Values) -> bool
+    requires within { AllByRecursion (IsWithin bytes.now) operands.now }
+    requires table { IsWellMade slots.now }
+    ensures { values_if_read result values.new.items
+        ≡ read_all slots.now (map (text_of bytes.now) operands.now) }
+{
+    if slots.is_empty() {
+        *values = ArrayVec::new();
+        return true;
+    }
+    match read_operands(bytes, operands, slots) {
+        None => false,
+        Some(read) => {
+            *values = read;
+            true
+        }
+    }
+}
+
+// The same, where operands stand there or none has to.
 fn read_by(
     bytes: &[u8],
     operands: &[Span],
@@ -85,25 +99,17 @@ fn read_by(
 ) -> bool
     requires within { AllByRecursion (IsWithin bytes.now) operands.now }
     requires table { IsWellMade slots.now }
-    ensures { values_if_read result values.new.items ≡ read_by slots.now wanted (map (text_of bytes.now) operands.now) }
+    ensures { values_if_read result values.new.items
+        ≡ read_by slots.now wanted (map (text_of bytes.now) operands.now) }
 {
-    if slots.is_empty() {
-        *values = ArrayVec::new();
-        return !wanted;
-    }
-    match read_operands(bytes, operands, slots) {
-        None => false,
-        Some(read) => {
-            *values = read;
-            !wanted || gives_some(values)
-        }
-    }
+    (!wanted || !operands.is_empty()) && read_all(bytes, operands, slots, values)
 }
 
 // The same by the slots of that form, if the card has its operation.
 fn read_as(bytes: &[u8], op: &[u8], operands: &[Span], form: CardForm, values: &mut Values) -> bool
     requires { AllByRecursion (IsWithin bytes.now) operands.now }
-    ensures { reading_of form (values_if_read result values.new.items) ≡ reading_as op.now (map (text_of bytes.now) operands.now) form }
+    ensures { reading_of form (values_if_read result values.new.items)
+        ≡ reading_as op.now (map (text_of bytes.now) operands.now) form }
 {
     form.operation() == op && read_by(bytes, operands, form.slots(), needs_some(form), values)
 }
@@ -139,6 +145,7 @@ fn forms_of(op: &[u8]) -> &'static [CardForm]
         b"WAITT" => &[CardForm::WaitTask],
         b"POST" => &[CardForm::Post],
         b"SETRP" => &[CardForm::SetRp],
+        b"RET15" => &[CardForm::Ret15],
         b"B" => &[CardForm::Branch],
         b"IFCODE" => &[CardForm::IfCode],
         b"IFCLUP" => &[CardForm::IfClup],
@@ -156,7 +163,8 @@ fn first_reading(
     values: &mut Values,
 ) -> Option<CardForm>
     requires { AllByRecursion (IsWithin bytes.now) operands.now }
-    ensures { reading_in result values.new.items ≡ reading_by op.now (map (text_of bytes.now) operands.now) forms.now }
+    ensures { reading_in result values.new.items
+        ≡ reading_by op.now (map (text_of bytes.now) operands.now) forms.now }
 {
     for form in forms {
         if read_as(bytes, op, operands, *form, values) {
@@ -207,7 +215,8 @@ pub(crate) fn read_card(
     values: &mut Values,
 ) -> Result<(Option<Name>, CardForm), Why>
     requires { HasSpansIn bytes.now card.now }
-    ensures { read_in card.now.number result values.new.items ≡ read_card seen.now (card_text bytes.now card.now) }
+    ensures { read_in card.now.number result values.new.items
+        ≡ read_card seen.now (card_text bytes.now card.now) }
 {
     let op = card.op.text(bytes);
     let name = name_of(card.name.text(bytes));

@@ -1,77 +1,92 @@
 //! Finding what cards name.
 
 ghost use Rattle.std.specs.Prelude.{◌≡◌, ◌≤◌, [], length, drop, OnOk, IfOk, IfErr, Option, Some, None};
+ghost use Rattle.rtm_deck_operands.specs.declared.slot.Kind.TheVariants as kinds;
+ghost use Rattle.rtm_deck_items.specs.Faults.{why_of_name};
 ghost use Rattle.rtm_deck.specs.Seen.{has_name};
-ghost use Rattle.rtm_deck.specs.References.{finds, finds_value, first_unfound, labels_onto, own_labels, first_nameless, refusal};
+ghost use Rattle.rtm_deck.specs.References.{finds, unfound, first_unfound, labels_onto, own_labels, first_nameless, refusal};
 ghost use Rattle.rtm_deck.specs.Reader.{Finds};
 
 use crate::card::Read;
 use crate::fault::DeckFault;
-use crate::reference::{Reference, references};
 use crate::role::role_of;
 use crate::seen::{Seen, put_name};
 use indexmap::IndexSet;
 use rtm_codes::NoMemory;
 use rtm_deck_items::{Name, Why};
-use rtm_deck_operands::Value;
+use rtm_deck_operands::{Kind, NameOf, Slot, Value};
 use std::alloc::Global;
 
 // Whether the name is there, with these labels of the own program.
-fn finds(seen: &Seen, own: &IndexSet<Name>, reference: Reference, name: &Name) -> bool
-    ensures { result ≡ finds seen.now own.now.keys reference name.now }
+fn finds(seen: &Seen, own: &IndexSet<Name>, named: NameOf, name: &Name) -> bool
+    ensures { result ≡ finds seen.now own.now.keys named name.now }
 {
-    match reference {
-        Reference::AProgram => seen.programs.contains(name),
-        Reference::ATask => seen.tasks.contains(name),
-        Reference::AnSrb => seen.srbs.contains(name),
-        Reference::OwnLabel => own.contains(name),
-        Reference::AnyLabel => seen.labels.contains(name),
-        Reference::Nothing => true,
+    match named {
+        NameOf::Program => seen.programs.contains(name),
+        NameOf::Task => seen.tasks.contains(name),
+        NameOf::Srb => seen.srbs.contains(name),
+        NameOf::OwnLabel => own.contains(name),
+        NameOf::AnyLabel => seen.labels.contains(name),
     }
 }
 
-fn finds_in(seen: &Seen, own: &IndexSet<Name>, reference: Reference, value: Value) -> bool
-    ensures { result ≡ finds_value seen.now own.now.keys reference (Some value) }
+// The fault of a name that isn't there.
+fn why_of_name(named: NameOf) -> Why
+    ensures { result ≡ why_of_name named }
 {
-    match value {
-        Value::Name(name) => finds(seen, own, reference, &name),
-        _ => true,
+    match named {
+        NameOf::Program | NameOf::Task | NameOf::Srb => Why::UnknownName,
+        NameOf::OwnLabel | NameOf::AnyLabel => Why::UnknownLabel,
     }
 }
 
-fn finds_value(
-    seen: &Seen,
-    own: &IndexSet<Name>,
-    reference: Reference,
-    value: Option<Value>,
-) -> bool
-    ensures { result ≡ finds_value seen.now own.now.keys reference value }
+// The fault of a value that names what isn't there.
+fn unfound_value(seen: &Seen, own: &IndexSet<Name>, named: NameOf, value: Value) -> Option<Why>
+    ensures { result ≡ unfound seen.now own.now.keys (kinds.Name named) (Some value) }
 {
     match value {
-        None => true,
-        Some(value) => finds_in(seen, own, reference, value),
+        Value::Name(name) => {
+            if finds(seen, own, named, &name) {
+                None
+            } else {
+                Some(why_of_name(named))
+            }
+        }
+        _ => None,
     }
 }
 
-// The fault of the first of these values that names what isn't there. At most two operands name something.
+// The same of a value of that kind, where one is given.
+fn unfound(seen: &Seen, own: &IndexSet<Name>, kind: Kind, value: Option<Value>) -> Option<Why>
+    ensures { result ≡ unfound seen.now own.now.keys kind value }
+{
+    let Kind::Name(named) = kind else {
+        return None;
+    };
+    match value {
+        None => None,
+        Some(value) => unfound_value(seen, own, named, value),
+    }
+}
+
+// The fault of the first of the values of these slots that names what isn't there. A table has at most eight slots.
 fn first_unfound(
     seen: &Seen,
     own: &IndexSet<Name>,
-    references: &[Reference],
+    slots: &[Slot],
     values: &[Option<Value>],
 ) -> Option<Why>
-    ensures { result ≡ first_unfound seen.now own.now.keys references.now values.now }
+    ensures { result ≡ first_unfound seen.now own.now.keys slots.now values.now }
 {
-    let [reference, others @ ..] = references else {
+    let [slot, others @ ..] = slots else {
         return None;
     };
     let [value, rest @ ..] = values else {
         return None;
     };
-    if finds_value(seen, own, *reference, *value) {
-        first_unfound(seen, own, others, rest)
-    } else {
-        Some(reference.why_unfound())
+    match unfound(seen, own, slot.kind, *value) {
+        Some(why) => Some(why),
+        None => first_unfound(seen, own, others, rest),
     }
 }
 
@@ -106,7 +121,7 @@ pub(crate) fn find_names(alloc: Global, seen: &Seen, reads: &[Read]) -> Result<(
     let mut own = IndexSet::new(alloc);
     for (i, read) in reads.iter().enumerate() {
         put_own_labels(&mut own, read, &reads[i + 1..])?;
-        if let Some(why) = first_unfound(seen, &own, references(read.form), &read.values) {
+        if let Some(why) = first_unfound(seen, &own, read.form.slots(), &read.values) {
             return Err(DeckFault::Refused {
                 card: read.number,
                 why,

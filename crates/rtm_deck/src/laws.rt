@@ -13,12 +13,15 @@ pub fn each_input_is_a_deck_or_has_a_fault()
         ⊎ ((card : ℕ) × (why : Why) × IsFirstFault bytes card why) }
     ensures not_both { (bytes : List ℕ) (d : DeckView) (card : ℕ) (why : Why) → DeckText bytes d
         → IsFirstFault bytes card why → ⊥ }
-    ensures one_deck { (bytes : List ℕ) (a b : DeckView) → DeckText bytes a → DeckText bytes b → a ≡ b }
+    ensures one_deck { (bytes : List ℕ) (a b : DeckView) → DeckText bytes a → DeckText bytes b
+        → a ≡ b }
 {}
 
 /// The canonical text of a deck that is spelled spells that deck and no other. So two inputs have the same canonical text
 /// exactly where they spell the same deck.
 pub fn canonical_texts_are_read_back()
-    ensures back { (bytes : List ℕ) (d other : DeckView) → DeckText bytes d → DeckText (canon d) other → other ≡ d }
-    ensures same { (a b : List ℕ) (d e : DeckView) → DeckText a d → DeckText b e → ((canon d ≡ canon e) ↔ (d ≡ e)) }
+    ensures back { (bytes : List ℕ) (d other : DeckView) → DeckText bytes d
+        → DeckText (canon d) other → other ≡ d }
+    ensures same { (a b : List ℕ) (d e : DeckView) → DeckText a d → DeckText b e
+        → ((canon d ≡ canon e) ↔ (d ≡ e)) }
 {}

@@ -8,7 +8,6 @@ mod find;
 mod laws;
 mod operation;
 mod reading;
-mod reference;
 mod role;
 mod seen;
 

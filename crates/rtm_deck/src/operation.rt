@@ -1,7 +1,8 @@
 //! What a card of a program does.
 
-ghost use Rattle.std.specs.Prelude.{◌≡◌, ◌<◌, ◌^◌, option_map, IfSome, position, bytes_eq, unwrap_or};
-ghost use Rattle.rtm_deck.specs.Operations.{value_at, flag_in, number_in, reason_in, code_in, name_in, three_in, class_in, flag_at, number_at, byte_at, code_at, class_at, reason_at, label_at, index_in, named_number_in, named_number_at, narrow, setrp_of, plain_op, routine_op, unit_op, op_of, no_name};
+ghost use Rattle.std.specs.Prelude.{◌≡◌, true, ◌<◌, ◌^◌, option_map, IfSome, position, bytes_eq, unwrap_or};
+ghost use Rattle.rtm_deck.specs.Roles.{role_of, is_line};
+ghost use Rattle.rtm_deck.specs.Operations.{value_at, flag_in, number_in, reason_in, code_in, name_in, three_in, class_in, flag_at, number_at, byte_at, code_at, class_at, reason_at, label_at, index_in, named_number_in, named_number_at, narrow, setrp_of, plain_op, routine_op, unit_op, op_in, op_of, no_name};
 
 use crate::seen::Seen;
 use indexmap::IndexSet;
@@ -195,176 +196,158 @@ fn setrp_of(values: &[Option<Value>]) -> Setrp
     }
 }
 
-// What a card does by itself, or with a program as its next; NOP for other cards.
-fn plain_op(seen: &Seen, form: CardForm, values: &[Option<Value>]) -> Op
+// What a card does by itself, or with a program as its next; none for other cards.
+fn plain_op(seen: &Seen, form: CardForm, values: &[Option<Value>]) -> Option<Op>
     ensures { result ≡ plain_op seen.now form values.now }
 {
     match form {
-        CardForm::Nop => Op::Nop,
-        CardForm::Get => Op::Get {
+        CardForm::Nop => Some(Op::Nop),
+        CardForm::Get => Some(Op::Get {
             class: class_at(values, 0),
             id: number_at(values, 1),
-        },
-        CardForm::Free => Op::Free {
+        }),
+        CardForm::Free => Some(Op::Free {
             class: class_at(values, 0),
             id: number_at(values, 1),
-        },
-        CardForm::Link => Op::Link {
+        }),
+        CardForm::Link => Some(Op::Link {
             prog: named_number_at(&seen.programs, values, 0),
-        },
-        CardForm::Xctl => Op::Xctl {
+        }),
+        CardForm::Xctl => Some(Op::Xctl {
             prog: named_number_at(&seen.programs, values, 0),
-        },
-        CardForm::Return => Op::Return,
-        CardForm::Abend => Op::Abend {
+        }),
+        CardForm::Return => Some(Op::Return),
+        CardForm::Abend => Some(Op::Abend {
             code: code_at(values, 0),
             reason: reason_at(values, 1),
             dump: flag_at(values, 2),
             step: flag_at(values, 3),
-        },
-        CardForm::Wait => Op::Wait {
+        }),
+        CardForm::Wait => Some(Op::Wait {
             event: byte_at(values, 0),
-        },
-        CardForm::Post => Op::Post {
+        }),
+        CardForm::Post => Some(Op::Post {
             event: byte_at(values, 0),
-        },
-        CardForm::SetRp => Op::SetRp(setrp_of(values)),
-        _ => Op::Nop,
+        }),
+        CardForm::SetRp => Some(Op::SetRp(setrp_of(values))),
+        CardForm::Ret15 => Some(Op::Ret15 {
+            rc: byte_at(values, 0),
+            label: name_in(value_at(values, 1)),
+        }),
+        _ => None,
     }
 }
 
-// What a card does with a recovery routine or a resource manager; NOP for other cards.
-fn routine_op(seen: &Seen, form: CardForm, values: &[Option<Value>]) -> Op
+// What a card does with a recovery routine or a resource manager; none for other cards.
+fn routine_op(seen: &Seen, form: CardForm, values: &[Option<Value>]) -> Option<Op>
     ensures { result ≡ routine_op seen.now form values.now }
 {
     match form {
-        CardForm::EstaexCt => Op::EstaexCt {
+        CardForm::EstaexCt => Some(Op::EstaexCt {
             prog: named_number_at(&seen.programs, values, 1),
             term: flag_at(values, 2),
             cancel: flag_at(values, 3),
             xctl: flag_at(values, 4),
-        },
-        CardForm::EstaexOv => Op::EstaexOv {
+        }),
+        CardForm::EstaexOv => Some(Op::EstaexOv {
             prog: named_number_at(&seen.programs, values, 1),
             term: flag_at(values, 2),
             cancel: flag_at(values, 3),
             xctl: flag_at(values, 4),
-        },
-        CardForm::EstaexZero => Op::EstaexZero,
-        CardForm::FrrAdd => Op::FrrAdd {
+        }),
+        CardForm::EstaexZero => Some(Op::EstaexZero),
+        CardForm::FrrAdd => Some(Op::FrrAdd {
             prog: named_number_at(&seen.programs, values, 1),
-        },
-        CardForm::FrrDelete => Op::FrrDelete,
-        CardForm::FrrReplace => Op::FrrReplace {
+        }),
+        CardForm::FrrDelete => Some(Op::FrrDelete),
+        CardForm::FrrReplace => Some(Op::FrrReplace {
             prog: named_number_at(&seen.programs, values, 1),
-        },
-        CardForm::FrrPurge => Op::FrrPurge,
-        CardForm::MgrAdd => Op::MgrAdd {
-            prog: named_number_at(&seen.programs, values, 1),
-            space: flag_at(values, 2),
-        },
-        CardForm::MgrDelete => Op::MgrDelete {
+        }),
+        CardForm::FrrPurge => Some(Op::FrrPurge),
+        CardForm::MgrAdd => Some(Op::MgrAdd {
             prog: named_number_at(&seen.programs, values, 1),
             space: flag_at(values, 2),
-        },
-        _ => Op::Nop,
+        }),
+        CardForm::MgrDelete => Some(Op::MgrDelete {
+            prog: named_number_at(&seen.programs, values, 1),
+            space: flag_at(values, 2),
+        }),
+        _ => None,
     }
 }
 
-// What a card does to a unit of work, or by a label; NOP for other cards.
-fn unit_op(seen: &Seen, form: CardForm, values: &[Option<Value>]) -> Op
+// What a card does to a unit of work, or by a label; none for other cards.
+fn unit_op(seen: &Seen, form: CardForm, values: &[Option<Value>]) -> Option<Op>
     ensures { result ≡ unit_op seen.now form values.now }
 {
     match form {
-        CardForm::Attachx => Op::Attachx {
+        CardForm::Attachx => Some(Op::Attachx {
             unit: named_number_at(&seen.units, values, 0),
             estai: None,
             term: false,
-        },
-        CardForm::AttachxEstai => Op::Attachx {
+        }),
+        CardForm::AttachxEstai => Some(Op::Attachx {
             unit: named_number_at(&seen.units, values, 0),
             estai: Some(named_number_at(&seen.programs, values, 1)),
             term: flag_at(values, 2),
-        },
-        CardForm::Detach => Op::Detach {
+        }),
+        CardForm::Detach => Some(Op::Detach {
             unit: named_number_at(&seen.units, values, 0),
             stae: flag_at(values, 1),
-        },
-        CardForm::Abterm => Op::Abterm {
+        }),
+        CardForm::Abterm => Some(Op::Abterm {
             unit: named_number_at(&seen.units, values, 1),
             code: code_at(values, 2),
             reason: reason_at(values, 3),
             dump: flag_at(values, 4),
             retry: flag_at(values, 5),
-        },
-        CardForm::Memterm => Op::Memterm {
+        }),
+        CardForm::Memterm => Some(Op::Memterm {
             code: code_at(values, 1),
-        },
-        CardForm::Schedule => Op::Schedule {
+        }),
+        CardForm::Schedule => Some(Op::Schedule {
             unit: named_number_at(&seen.units, values, 0),
-        },
-        CardForm::WaitTask => Op::WaitTask {
+        }),
+        CardForm::WaitTask => Some(Op::WaitTask {
             unit: named_number_at(&seen.units, values, 0),
-        },
-        CardForm::Branch => Op::Branch {
+        }),
+        CardForm::Branch => Some(Op::Branch {
             label: label_at(values, 0),
-        },
-        CardForm::IfCode => Op::IfCode {
+        }),
+        CardForm::IfCode => Some(Op::IfCode {
             code: code_at(values, 0),
             label: label_at(values, 1),
-        },
-        CardForm::IfClup => Op::IfClup {
+        }),
+        CardForm::IfClup => Some(Op::IfClup {
             label: label_at(values, 0),
-        },
-        CardForm::IfPerc => Op::IfPerc {
+        }),
+        CardForm::IfPerc => Some(Op::IfPerc {
             label: label_at(values, 0),
-        },
-        _ => Op::Nop,
+        }),
+        _ => None,
     }
 }
 
-/// What the card does, with the numbers of the programs and units that it names.
+// What the card does, if it is one of a program, with the numbers of the programs and units that it names.
+fn op_in(seen: &Seen, form: CardForm, values: &[Option<Value>]) -> Option<Op>
+    ensures { result ≡ op_in seen.now form values.now }
+{
+    if let Some(op) = plain_op(seen, form, values) {
+        return Some(op);
+    }
+    if let Some(op) = routine_op(seen, form, values) {
+        return Some(op);
+    }
+    unit_op(seen, form, values)
+}
+
+/// What the card of a program does.
 pub(crate) fn op_of(seen: &Seen, form: CardForm, values: &[Option<Value>]) -> Op
+    requires { is_line (role_of form) ≡ true }
     ensures { result ≡ op_of seen.now form values.now }
 {
-    match form {
-        CardForm::EstaexCt
-        | CardForm::EstaexOv
-        | CardForm::EstaexZero
-        | CardForm::FrrAdd
-        | CardForm::FrrDelete
-        | CardForm::FrrReplace
-        | CardForm::FrrPurge
-        | CardForm::MgrAdd
-        | CardForm::MgrDelete => routine_op(seen, form, values),
-        CardForm::Attachx
-        | CardForm::AttachxEstai
-        | CardForm::Detach
-        | CardForm::Abterm
-        | CardForm::Memterm
-        | CardForm::Schedule
-        | CardForm::WaitTask
-        | CardForm::Branch
-        | CardForm::IfCode
-        | CardForm::IfClup
-        | CardForm::IfPerc => unit_op(seen, form, values),
-        CardForm::Nop
-        | CardForm::Get
-        | CardForm::Free
-        | CardForm::Link
-        | CardForm::Xctl
-        | CardForm::Return
-        | CardForm::Abend
-        | CardForm::Wait
-        | CardForm::Post
-        | CardForm::SetRp
-        | CardForm::Region
-        | CardForm::Prog
-        | CardForm::Pend
-        | CardForm::Task
-        | CardForm::Srb
-        | CardForm::Oper
-        | CardForm::Cancel
-        | CardForm::End => plain_op(seen, form, values),
+    match op_in(seen, form, values) {
+        Some(op) => op,
+        None => unreachable!("each form of a program's card is of some family"),
     }
 }

@@ -11,7 +11,7 @@ ghost use Rattle.rtm_deck.specs.Refusal.{IsRefusalOf, IsThatDeck, IsThatRefusal}
 ghost use Rattle.rtm_deck.specs.Seen.{nothing_seen};
 ghost use Rattle.rtm_deck.specs.References.{first_nameless};
 ghost use Rattle.rtm_deck.specs.Building.{deck_of};
-ghost use Rattle.rtm_deck.specs.Reader.{Gives, scan, why_unended, deck_if_named, deck_if_ended, deck_or_fault, read_cards};
+ghost use Rattle.rtm_deck.specs.Reader.{Gives, scan_of, scan_next, scan, why_unended, deck_if_named, deck_if_ended, deck_or_fault, read_cards};
 
 use crate::build::{Parts, build};
 use crate::card::{Read, read_card};
@@ -40,32 +40,48 @@ impl Model for Scan {
     ghost view = { λ a. record { reads = a.reads.items; seen = a.seen } };
 }
 
+// Reads one card more behind those that were read, unless it breaks a rule of form.
+fn read_next(
+    reads: &mut Vec<Read>,
+    seen: &mut Seen,
+    bytes: &[u8],
+    card: &Card,
+) -> Result<(), DeckFault>
+    requires spans { HasSpansIn bytes.now card.now }
+    requires few { seen.old.commands < 2 ^ 31 }
+    ensures { Gives (λ _ t. scan_of reads.new.items seen.new ≡ t) result
+        (scan_next (scan_of reads.old.items seen.old) (card_text bytes.now card.now)) }
+{
+    let number = card.number;
+    let mut values = ArrayVec::new();
+    match read_card(seen, bytes, card, &mut values) {
+        Err(why) => Err(DeckFault::Refused { card: number, why }),
+        Ok((name, form)) => {
+            seen.add(role_of(form), &name)?;
+            reads.push(Read {
+                number,
+                name,
+                form,
+                values,
+            })?;
+            Ok(())
+        }
+    }
+}
+
 // Reads the cards one after the other, up to the first that breaks a rule of form.
 fn scan_cards(alloc: Global, bytes: &[u8], cards: &[Card]) -> Result<Scan, DeckFault>
     requires spans { AllByRecursion (HasSpansIn bytes.now) cards.now }
     requires few { length cards.now < 2 ^ 30 }
-    ensures { Gives (λ a b. a ≡ b) result (scan [] nothing_seen (map (card_text bytes.now) cards.now)) }
+    ensures { Gives (λ a b. a ≡ b) result
+        (scan [] nothing_seen (map (card_text bytes.now) cards.now)) }
 {
     let mut reads = Vec::with_capacity(alloc, cards.len())?;
     let mut seen = Seen::new(alloc);
     'cards: for card in cards {
-        let mut values = ArrayVec::new();
-        match read_card(&seen, bytes, card, &mut values) {
-            Err(why) => {
-                return Err(DeckFault::Refused {
-                    card: card.number,
-                    why,
-                });
-            }
-            Ok((name, form)) => {
-                seen.add(role_of(form), &name)?;
-                reads.push(Read {
-                    number: card.number,
-                    name,
-                    form,
-                    values,
-                })?;
-            }
+        match read_next(&mut reads, &mut seen, bytes, card) {
+            Err(fault) => return Err(fault),
+            Ok(()) => {}
         }
     }
     Ok(Scan { reads, seen })
@@ -94,7 +110,8 @@ fn deck_parts(alloc: Global, scan: &Scan) -> Result<Parts, DeckFault>
 
 // The deck, where each name is there.
 fn deck_if_named(alloc: Global, scan: &Scan) -> Result<Parts, DeckFault>
-    ensures { Gives (λ a b. a ≡ b) result (deck_if_named scan.now (first_nameless scan.now.seen [] scan.now.reads)) }
+    ensures { Gives (λ a b. a ≡ b) result
+        (deck_if_named scan.now (first_nameless scan.now.seen [] scan.now.reads)) }
 {
     match find_names(alloc, &scan.seen, &scan.reads) {
         Err(fault) => Err(fault),
@@ -159,7 +176,8 @@ fn read_cards(
     requires spans { AllByRecursion (HasSpansIn bytes.now) cards.now }
     requires few { length cards.now < 2 ^ 30 }
     requires counted { lines < 2 ^ 31 }
-    ensures { Gives (λ a b. a ≡ b) result (read_cards (map (card_text bytes.now) cards.now) lines fault) }
+    ensures { Gives (λ a b. a ≡ b) result
+        (read_cards (map (card_text bytes.now) cards.now) lines fault) }
 {
     match scan_cards(alloc, bytes, cards) {
         Err(fault) => Err(fault),
@@ -180,6 +198,7 @@ fn read_bytes(alloc: Global, bytes: &[u8]) -> Result<Deck, DeckFault>
         Err(fault) => Err(fault),
         Ok(parts) => Ok(Deck {
             limit: parts.limit,
+            sdwa: parts.sdwa,
             programs: parts.programs,
             units: parts.units,
             commands: parts.commands,
@@ -197,7 +216,8 @@ pub fn read_deck(alloc: Global, bytes: &[u8]) -> Result<Deck, DeckFault>
 
     // What is spelled is read, and a fault is named, but for want of memory.
     ensures spelled { (d : DeckView) → DeckText bytes.now d → IsThatDeck d result }
-    ensures fault { (card : ℕ) (why : Why) → IsFirstFault bytes.now card why → IsThatRefusal card why result }
+    ensures fault { (card : ℕ) (why : Why) → IsFirstFault bytes.now card why
+        → IsThatRefusal card why result }
 {
     read_bytes(alloc, bytes)
 }

@@ -5,19 +5,11 @@ ghost use Rattle.rtm_deck.specs.Seen.{nothing_seen, after, is_unordered, is_misp
 
 use crate::role::Role;
 use indexmap::IndexSet;
+use rtm_cards::{MOST_COMMANDS, MOST_PROGRAMS, MOST_UNITS};
 use rtm_codes::NoMemory;
 use rtm_deck_items::{Name, Why};
 use std::alloc::Global;
 use std::marker::Model;
-
-// How many programs a deck has at most.
-const MOST_PROGRAMS: usize = 256;
-
-// How many units of work a deck has at most.
-const MOST_UNITS: usize = 64;
-
-// How many commands a deck has at most.
-const MOST_COMMANDS: u32 = 64;
 
 /// The names on the cards so far, each space in the order of its cards, and what the next card may be.
 #[derive(Drop)]

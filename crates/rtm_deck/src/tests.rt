@@ -173,6 +173,88 @@ fn names_the_first_fault(rt: HostRuntime) {
     }
 }
 
+// The limit, whether routines get an SDWA, and what a card does; or the fault.
+type Reading = Result<(u32, bool, Option<Op>), DeckFault>;
+
+// What is read of a deck with that first card and that card of its only program.
+fn reading_of(alloc: Global, region: &[u8], card: &[u8]) -> Result<Reading, AllocError> {
+    let mut bytes = Vec::new(alloc);
+    bytes.extend_from_slice(region)?;
+    bytes.extend_from_slice(b"\nM PROG\nGO NOP\n")?;
+    bytes.extend_from_slice(card)?;
+    bytes.extend_from_slice(b"\n PEND\nJ TASK PGM=M\n END\n")?;
+    Ok(match read_deck(alloc, &bytes) {
+        Err(fault) => Err(fault),
+        Ok(deck) => {
+            let line = deck
+                .programs
+                .first()
+                .and_then(|program| program.lines.get(1));
+            Ok((deck.limit, deck.sdwa, line.map(|line| line.op)))
+        }
+    })
+}
+
+fn nop(limit: u32, sdwa: bool) -> Reading {
+    Ok((limit, sdwa, Some(Op::Nop)))
+}
+
+fn ret15(rc: u8, label: Option<Name>) -> Reading {
+    Ok((20_000, true, Some(Op::Ret15 { rc, label })))
+}
+
+fn refused(card: u32, why: Why) -> Reading {
+    Err(DeckFault::Refused { card, why })
+}
+
+#[test]
+fn reads_region_and_ret15(rt: HostRuntime) -> Result<(), Fail> {
+    let rows: [(&[u8], &[u8], Reading); 19] = [
+        (b"*", b" NOP", nop(20_000, true)),
+        (b" REGION SDWA=YES", b" NOP", nop(20_000, true)),
+        (b" REGION SDWA=NO", b" NOP", nop(20_000, false)),
+        (b" REGION LIMIT=7", b" NOP", nop(7, true)),
+        (b" REGION LIMIT=7,SDWA=NO", b" NOP", nop(7, false)),
+        (b" REGION SDWA=NO,LIMIT=7", b" NOP", nop(7, false)),
+        (b" REGION", b" NOP", refused(1, Why::BadOperand)),
+        (b" REGION SDWA=MAYBE", b" NOP", refused(1, Why::BadOperand)),
+        (
+            b" REGION SDWA=NO,SDWA=NO",
+            b" NOP",
+            refused(1, Why::BadOperand),
+        ),
+        (b" REGION NO", b" NOP", refused(1, Why::BadOperand)),
+        (b" REGION LIMIT=0", b" NOP", refused(1, Why::BadOperand)),
+        (
+            b"*",
+            b" RET15 4,RETADDR=GO",
+            ret15(4, Some(Name(*b"GO      "))),
+        ),
+        (
+            b"*",
+            b" RET15 04,RETADDR=GO",
+            ret15(4, Some(Name(*b"GO      "))),
+        ),
+        (b"*", b" RET15 16", ret15(16, None)),
+        (b"*", b" RET15", refused(4, Why::BadOperand)),
+        (b"*", b" RET15 5", refused(4, Why::BadOperand)),
+        (b"*", b" RET15 4,GO", refused(4, Why::BadOperand)),
+        (b"*", b" RET15 RC=4", refused(4, Why::BadOperand)),
+        (
+            b"*",
+            b" RET15 4,RETADDR=NONE",
+            refused(4, Why::UnknownLabel),
+        ),
+    ];
+    for (region, card, wanted) in rows {
+        assert!(rt;
+            reading_of(rt.alloc(), region, card)? == wanted,
+            "{region:?} {card:?}"
+        );
+    }
+    Ok(())
+}
+
 #[test]
 fn keeps_limits(rt: HostRuntime) -> Result<(), Fail> {
     let bytes = repeated_text(rt.alloc(), b"*\n", 10_001)?;

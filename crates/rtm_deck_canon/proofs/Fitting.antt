@@ -10,10 +10,14 @@ use Rattle.rtm_deck_operands.specs.declared.value.Value.{Value}
 use Rattle.rtm_deck_operands.specs.declared.value.Value.TheVariants as values
 use Rattle.rtm_deck_operands.specs.declared.value.Three.{Three}
 use Rattle.rtm_deck_operands.specs.declared.slot.Kind.TheVariants as kinds
+use Rattle.rtm_deck_operands.specs.declared.slot.NameOf.{NameOf}
+use Rattle.rtm_deck_operands.specs.declared.slot.NameOf.TheVariants as names
 use Rattle.rtm_deck_operands.specs.declared.slot.LeftOut.{LeftOut}
 use Rattle.rtm_deck_operands.specs.declared.slot.LeftOut.TheVariants as left_out
 use Rattle.rtm_deck_operands.specs.Name.{is_padded_name}
 use Rattle.rtm_deck_operands.specs.Slot.{blank, slot_fits, slots_fit, optional_slot}
+use Rattle.rtm_cards.specs.Limits.{most_entries}
+use Rattle.rtm_deck_operands.specs.Value.{is_return_code}
 use Rattle.rtm_deck_operands.specs.Value.{is_abend_code as is_abend_value}
 use Rattle.rtm_deck_items.specs.declared.deck.Line.{Line}
 use Rattle.rtm_deck_items.specs.declared.deck.Unit.{Unit as UnitCard}
@@ -25,7 +29,7 @@ use Rattle.rtm_deck_items.specs.declared.op.Op.TheVariants as ops
 use Rattle.rtm_deck_items.specs.declared.op.Setrp.{Setrp}
 use Rattle.rtm_deck_items.specs.View.{ProgramView, DeckView}
 use Rattle.rtm_deck_items.specs.Forms.{slots_of}
-use Rattle.rtm_deck_items.specs.Items.{LimitCard, program_name, unit_name, related_name, form_of_op, values_of_op, form_of_kind, values_of_unit}
+use Rattle.rtm_deck_items.specs.Items.{RegionCard, program_name, unit_name, related_name, form_of_op, values_of_op, form_of_kind, values_of_unit}
 use Rattle.rtm_deck_items.specs.Reading.{is_task_card}
 use Rattle.rtm_deck_items.specs.WellFormed.{is_well_formed, is_code, is_abend_code, is_reason, is_setrp_rc, is_setrp_code, gives_some, is_program, is_task_in, is_srb_in, is_own_label, is_retry_label, has_label, has_label_anywhere, is_setrp, is_op, is_label, labels_in, are_distinct, is_program_of, is_related, is_unit_of, is_command_of}
 use Rattle.rtm_deck_items.proofs.FormFacts.{conditions, limits}
@@ -52,8 +56,8 @@ named_unit (u ∷ us) zero test h there = record { bytes = u.name; is = refl; pa
 named_unit (u ∷ us) (suc unit) test h there = named_unit us unit test (and_parts (is_padded_name u.name) _ h).1 there
 
 -- a name fits a slot that takes names
-fit_name : (key : List ℕ) (absent : LeftOut) (value : Option Value) → Named value → IsTrue (slot_fits (record { key = key; kind = kinds.Name; left_out = absent }) value)
-fit_name key absent value h = rw h.is h.padded
+fit_name : (named : NameOf) (key : List ℕ) (absent : LeftOut) (value : Option Value) → Named value → IsTrue (slot_fits (record { key = key; kind = kinds.Name named; left_out = absent }) value)
+fit_name named key absent value h = rw h.is h.padded
 
 fit_number : (least most n : ℕ) → least ≤ n → n ≤ most → IsTrue (nat_le least n && nat_le n most)
 fit_number least most n a b = and_from _ _ (le-leb least n a) (le-leb n most b)
@@ -82,7 +86,7 @@ fit_return_code : (key : List ℕ) (rc : Option ℕ) → IsTrue (is_setrp_rc rc)
 fit_return_code key None h = refl
 fit_return_code key (Some n) h = h
 
-fit_retry_label : (d : DeckView) (key : List ℕ) (label : Option (List ℕ)) → IsTrue (is_retry_label d label) → IsTrue (slot_fits (optional_slot key kinds.Name) (option_map values.Name label))
+fit_retry_label : (d : DeckView) (key : List ℕ) (label : Option (List ℕ)) → IsTrue (is_retry_label d label) → IsTrue (slot_fits (optional_slot key (kinds.Name names.AnyLabel)) (option_map values.Name label))
 fit_retry_label d key None h = refl
 fit_retry_label d key (Some label) h = (and_parts (is_padded_name label) (has_label_anywhere d label) h).0
 
@@ -121,8 +125,8 @@ module _ (d : DeckView) (form : IsTrue (is_well_formed d)) where
   srb unit h = named_unit d.units unit (λ (u : UnitCard). not (is_task_card u)) unit_names h
 
   -- one name alone
-  one_name : (key : List ℕ) (absent : LeftOut) (value : Option Value) → Named value → IsTrue (slots_fit (record { key = key; kind = kinds.Name; left_out = absent } ∷ []) (value ∷ []))
-  one_name key absent value h = and_from _ true (fit_name key absent value h) refl
+  one_name : (named : NameOf) (key : List ℕ) (absent : LeftOut) (value : Option Value) → Named value → IsTrue (slots_fit (record { key = key; kind = kinds.Name named; left_out = absent } ∷ []) (value ∷ []))
+  one_name named key absent value h = and_from _ true (fit_name named key absent value h) refl
 
   -- a label of the own program
   own_label : (lines : List Line) (label : List ℕ) → IsTrue (is_own_label lines label) → Named (Some (values.Name label))
@@ -142,43 +146,46 @@ module _ (d : DeckView) (form : IsTrue (is_well_formed d)) where
   op_fits lines ops.Nop h = refl
   op_fits lines (ops.Get class id) h = and_from _ true (fit_number 0 999999 id (omega arith) (leb-true id 999999 h)) refl
   op_fits lines (ops.Free class id) h = and_from _ true (fit_number 0 999999 id (omega arith) (leb-true id 999999 h)) refl
-  op_fits lines (ops.Link prog) h = one_name (replicate 8 blank) left_out.Needed _ (program prog h)
-  op_fits lines (ops.Xctl prog) h = one_name (replicate 8 blank) left_out.Needed _ (program prog h)
+  op_fits lines (ops.Link prog) h = one_name names.Program (replicate 8 blank) left_out.Needed _ (program prog h)
+  op_fits lines (ops.Xctl prog) h = one_name names.Program (replicate 8 blank) left_out.Needed _ (program prog h)
   op_fits lines ops.Return h = refl
   op_fits lines (ops.Abend code reason dump step) h =
       let parts = and_parts (is_abend_code code) (is_reason reason) h in
       and_from _ _ (fit_abend_code (replicate 8 blank) left_out.Needed code parts.0) (and_from _ true (fit_reason (codes "REASON  ") reason parts.1) refl)
-  op_fits lines (ops.EstaexCt prog term cancel xctl) h = and_from _ true (fit_name (codes "PGM     ") left_out.Needed _ (program prog h)) refl
-  op_fits lines (ops.EstaexOv prog term cancel xctl) h = and_from _ true (fit_name (codes "PGM     ") left_out.Needed _ (program prog h)) refl
+  op_fits lines (ops.EstaexCt prog term cancel xctl) h = and_from _ true (fit_name names.Program (codes "PGM     ") left_out.Needed _ (program prog h)) refl
+  op_fits lines (ops.EstaexOv prog term cancel xctl) h = and_from _ true (fit_name names.Program (codes "PGM     ") left_out.Needed _ (program prog h)) refl
   op_fits lines ops.EstaexZero h = refl
-  op_fits lines (ops.FrrAdd prog) h = one_name (codes "PGM     ") left_out.Needed _ (program prog h)
+  op_fits lines (ops.FrrAdd prog) h = one_name names.Program (codes "PGM     ") left_out.Needed _ (program prog h)
   op_fits lines ops.FrrDelete h = refl
-  op_fits lines (ops.FrrReplace prog) h = one_name (codes "PGM     ") left_out.Needed _ (program prog h)
+  op_fits lines (ops.FrrReplace prog) h = one_name names.Program (codes "PGM     ") left_out.Needed _ (program prog h)
   op_fits lines ops.FrrPurge h = refl
   op_fits lines (ops.Attachx unit None term) h =
-      one_name (replicate 8 blank) left_out.Needed _ (task unit (and_parts (is_task_in d unit) true (and_parts (is_task_in d unit && true) (not term) h).0).0)
+      one_name names.Task (replicate 8 blank) left_out.Needed _ (task unit (and_parts (is_task_in d unit) true (and_parts (is_task_in d unit && true) (not term) h).0).0)
   op_fits lines (ops.Attachx unit (Some prog) term) h =
       let parts = and_parts (is_task_in d unit) (is_program d prog) (and_parts (is_task_in d unit && is_program d prog) true h).0 in
-      and_from _ _ (fit_name (replicate 8 blank) left_out.Needed _ (task unit parts.0)) (and_from _ true (fit_name (codes "ESTAI   ") left_out.Needed _ (program prog parts.1)) refl)
-  op_fits lines (ops.Detach unit stae) h = and_from _ true (fit_name (replicate 8 blank) left_out.Needed _ (task unit h)) refl
+      and_from _ _ (fit_name names.Task (replicate 8 blank) left_out.Needed _ (task unit parts.0)) (and_from _ true (fit_name names.Program (codes "ESTAI   ") left_out.Needed _ (program prog parts.1)) refl)
+  op_fits lines (ops.Detach unit stae) h = and_from _ true (fit_name names.Task (replicate 8 blank) left_out.Needed _ (task unit h)) refl
   op_fits lines (ops.Abterm unit code reason dump retry) h =
       let parts = and_parts (is_task_in d unit && is_abend_code code) (is_reason reason) h in
       let front = and_parts (is_task_in d unit) (is_abend_code code) parts.0 in
-      and_from _ _ (fit_name (codes "TASK    ") left_out.Needed _ (task unit front.0)) (and_from _ _ (fit_abend_code (codes "COMPCOD ") left_out.Needed code front.1) (and_from _ true (fit_reason (codes "REASON  ") reason parts.1) refl))
+      and_from _ _ (fit_name names.Task (codes "TASK    ") left_out.Needed _ (task unit front.0)) (and_from _ _ (fit_abend_code (codes "COMPCOD ") left_out.Needed code front.1) (and_from _ true (fit_reason (codes "REASON  ") reason parts.1) refl))
   op_fits lines (ops.Memterm code) h = and_from _ true (fit_abend_code (codes "COMPCOD ") left_out.Needed code h) refl
-  op_fits lines (ops.MgrAdd prog space) h = and_from _ true (fit_name (codes "PGM     ") left_out.Needed _ (program prog h)) refl
-  op_fits lines (ops.MgrDelete prog space) h = and_from _ true (fit_name (codes "PGM     ") left_out.Needed _ (program prog h)) refl
-  op_fits lines (ops.Schedule unit) h = one_name (replicate 8 blank) left_out.Needed _ (srb unit h)
+  op_fits lines (ops.MgrAdd prog space) h = and_from _ true (fit_name names.Program (codes "PGM     ") left_out.Needed _ (program prog h)) refl
+  op_fits lines (ops.MgrDelete prog space) h = and_from _ true (fit_name names.Program (codes "PGM     ") left_out.Needed _ (program prog h)) refl
+  op_fits lines (ops.Schedule unit) h = one_name names.Srb (replicate 8 blank) left_out.Needed _ (srb unit h)
   op_fits lines (ops.Wait event) h = and_from _ true (fit_number 0 255 event (omega arith) (leb-true event 255 h)) refl
-  op_fits lines (ops.WaitTask unit) h = one_name (replicate 8 blank) left_out.Needed _ (task unit h)
+  op_fits lines (ops.WaitTask unit) h = one_name names.Task (replicate 8 blank) left_out.Needed _ (task unit h)
   op_fits lines (ops.Post event) h = and_from _ true (fit_number 0 255 event (omega arith) (leb-true event 255 h)) refl
   op_fits lines (ops.SetRp s) h = setrp s h
-  op_fits lines (ops.Branch label) h = one_name (replicate 8 blank) left_out.Needed _ (own_label lines label h)
+  op_fits lines (ops.Ret15 rc label) h =
+      let parts = and_parts (is_return_code rc) (is_retry_label d label) h in
+      and_from _ _ parts.0 (and_from _ true (fit_retry_label d (codes "RETADDR ") label parts.1) refl)
+  op_fits lines (ops.Branch label) h = one_name names.OwnLabel (replicate 8 blank) left_out.Needed _ (own_label lines label h)
   op_fits lines (ops.IfCode code label) h =
       let parts = and_parts (is_code code) (is_own_label lines label) h in
-      and_from _ _ (fit_code (replicate 8 blank) left_out.Needed code parts.0) (one_name (replicate 8 blank) left_out.Needed _ (own_label lines label parts.1))
-  op_fits lines (ops.IfClup label) h = one_name (replicate 8 blank) left_out.Needed _ (own_label lines label h)
-  op_fits lines (ops.IfPerc label) h = one_name (replicate 8 blank) left_out.Needed _ (own_label lines label h)
+      and_from _ _ (fit_code (replicate 8 blank) left_out.Needed code parts.0) (one_name names.OwnLabel (replicate 8 blank) left_out.Needed _ (own_label lines label parts.1))
+  op_fits lines (ops.IfClup label) h = one_name names.OwnLabel (replicate 8 blank) left_out.Needed _ (own_label lines label h)
+  op_fits lines (ops.IfPerc label) h = one_name names.OwnLabel (replicate 8 blank) left_out.Needed _ (own_label lines label h)
 
   -- the values of each card of a program fit
   pub program_fit : (p : ProgramView) → IsTrue (is_program_of d p) → IsTrue (program_fits d p)
@@ -191,13 +198,13 @@ module _ (d : DeckView) (form : IsTrue (is_well_formed d)) where
   pub programs_fit : IsTrue (list_all (program_fits d) d.programs)
   programs_fit = each_test (is_program_of d) (program_fits d) program_fit d.programs (conditions d form).programs
 
-  related : (unit : Option ℕ) → IsTrue (is_related d Srb unit) → IsTrue (slot_fits (optional_slot (codes "TASK    ") kinds.Name) (related_name d unit))
+  related : (unit : Option ℕ) → IsTrue (is_related d Srb unit) → IsTrue (slot_fits (optional_slot (codes "TASK    ") (kinds.Name names.Task)) (related_name d unit))
   related None h = refl
-  related (Some unit) h = fit_name (codes "TASK    ") left_out.Nothing _ (task unit h)
+  related (Some unit) h = fit_name names.Task (codes "TASK    ") left_out.Nothing _ (task unit h)
 
   kind_fits : (kind : UnitKind) (unit : UnitCard) → IsTrue (is_program d unit.prog) → IsTrue (is_related d kind unit.related) → IsTrue (slots_fit (slots_of (form_of_kind kind)) (values_of_unit d kind unit))
-  kind_fits Task unit h r = one_name (codes "PGM     ") left_out.Needed _ (program unit.prog h)
-  kind_fits Srb unit h r = and_from _ _ (fit_name (codes "PGM     ") left_out.Needed _ (program unit.prog h)) (and_from _ true (related unit.related r) refl)
+  kind_fits Task unit h r = one_name names.Program (codes "PGM     ") left_out.Needed _ (program unit.prog h)
+  kind_fits Srb unit h r = and_from _ _ (fit_name names.Program (codes "PGM     ") left_out.Needed _ (program unit.prog h)) (and_from _ true (related unit.related r) refl)
 
   pub unit_fit : (unit : UnitCard) → IsTrue (is_unit_of d unit) → IsTrue (unit_fits d unit)
   unit_fit unit h =
@@ -209,12 +216,12 @@ module _ (d : DeckView) (form : IsTrue (is_well_formed d)) where
 
   pub command_fit : (command : Command) → IsTrue (is_command_of d command) → IsTrue (command_fits d command)
   command_fit command h =
-      let parts = and_parts (is_task_in d command.target) (nat_le command.at 100000) h in
-      and_from _ _ (fit_name (replicate 8 blank) left_out.Needed _ (task command.target parts.0))
-      (and_from _ true (fit_number 0 100000 command.at (omega arith) (leb-true command.at 100000 parts.1)) refl)
+      let parts = and_parts (is_task_in d command.target) (nat_le command.at most_entries) h in
+      and_from _ _ (fit_name names.Task (replicate 8 blank) left_out.Needed _ (task command.target parts.0))
+      (and_from _ true (fit_number 0 most_entries command.at (omega arith) (leb-true command.at most_entries parts.1)) refl)
 
   pub commands_fit : IsTrue (list_all (command_fits d) d.commands)
   commands_fit = each_test (is_command_of d) (command_fits d) command_fit d.commands (conditions d form).commands
 
-  pub limit_fit : IsTrue (item_fits d (LimitCard d.limit))
-  limit_fit = and_from _ true (fit_number 1 100000 d.limit (limits d form).least (limits d form).most) refl
+  pub region_fits : IsTrue (item_fits d (RegionCard d.limit d.sdwa))
+  region_fits = and_from _ true (fit_number 1 most_entries d.limit (limits d form).least (limits d form).most) refl

@@ -8,7 +8,8 @@ use Rattle.std.proofs.lemmas.List.Folds.{flat_map-map}
 use Rattle.rtm_deck_items.specs.declared.deck.Unit.{Unit as UnitCard}
 use Rattle.rtm_deck_items.specs.declared.deck.Command.{Command}
 use Rattle.rtm_deck_items.specs.View.{ProgramView, DeckView}
-use Rattle.rtm_deck_items.specs.Items.{Item, LimitCard, ProgramStart, ProgramCard, ProgramEnd, CommandsStart, CommandCard, DeckEnd, ProgramBlock, UnitBlock, items_of_block, opening_items, closing_items}
+use Rattle.rtm_deck_items.specs.Items.{Item, RegionCard, ProgramStart, ProgramCard, ProgramEnd, CommandsStart, CommandCard, DeckEnd, ProgramBlock, UnitBlock, items_of_block, opening_items, closing_items}
+use Rattle.rtm_deck_items.specs.WellFormed.{has_region}
 use Rattle.rtm_deck_items.specs.Canon.{canon_blocks, canon}
 use Rattle.rtm_deck_canon.specs.Text.{item_text, region_text, line_text, program_text, unit_text, command_text, commands_text, whole_text}
 
@@ -16,12 +17,12 @@ use Rattle.rtm_deck_canon.specs.Text.{item_text, region_text, line_text, program
 abbrev texts : DeckView → List Item → List ℕ
 texts d items = flat_map (item_text d) items
 
-opening : (d : DeckView) → texts d (opening_items (not (eqb d.limit 20000)) d.limit) ≡ region_text d
-opening d = go (eqb d.limit 20000)
+opening : (d : DeckView) → texts d (opening_items (has_region d.limit d.sdwa) d.limit d.sdwa) ≡ region_text d
+opening d = go (has_region d.limit d.sdwa)
   where
-    go : (t : Bool) → texts d (if not t then LimitCard d.limit ∷ [] else []) ≡ (if t then [] else item_text d (LimitCard d.limit))
-    go true = refl
-    go false = append-nil (item_text d (LimitCard d.limit))
+    go : (t : Bool) → texts d (if t then RegionCard d.limit d.sdwa ∷ [] else []) ≡ (if t then item_text d (RegionCard d.limit d.sdwa) else [])
+    go true = append-nil (item_text d (RegionCard d.limit d.sdwa))
+    go false = refl
 
 program : (d : DeckView) (p : ProgramView) → texts d (items_of_block (ProgramBlock p)) ≡ program_text d p
 program d p =
@@ -64,7 +65,7 @@ four d a b c e =
 -- the canonical text, part by part
 pub canon_parts : (d : DeckView) → canon d ≡ whole_text d
 canon_parts d =
-    four d (opening_items (not (eqb d.limit 20000)) d.limit) (flat_map items_of_block (canon_blocks d)) (closing_items (not (eqb (length d.commands) 0)) d.commands) (DeckEnd ∷ [])
+    four d (opening_items (has_region d.limit d.sdwa) d.limit d.sdwa) (flat_map items_of_block (canon_blocks d)) (closing_items (not (eqb (length d.commands) 0)) d.commands) (DeckEnd ∷ [])
     ∙ ap (λ (t : List ℕ). t ++ texts d (flat_map items_of_block (canon_blocks d)) ++ texts d (closing_items (not (eqb (length d.commands) 0)) d.commands) ++ texts d (DeckEnd ∷ [])) (opening d)
     ∙ ap (λ (t : List ℕ). region_text d ++ t ++ texts d (closing_items (not (eqb (length d.commands) 0)) d.commands) ++ texts d (DeckEnd ∷ [])) (blocks d)
     ∙ ap (λ (t : List ℕ). region_text d ++ (flat_map (program_text d) d.programs ++ flat_map (unit_text d) d.units) ++ t ++ texts d (DeckEnd ∷ [])) (closing d d.commands)

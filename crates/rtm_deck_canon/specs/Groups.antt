@@ -13,7 +13,7 @@ names_unit (Schedule unit) = true
 names_unit (WaitTask unit) = true
 names_unit _ = false
 
--- the operation asks the system for recovery, or is one of these
+-- the operation ends its unit of work abnormally, or asks for recovery or for a resource manager
 abbrev pub is_request : Op → Bool
 is_request (Abend code reason dump step) = true
 is_request (EstaexCt prog term cancel xctl) = true
@@ -25,4 +25,4 @@ is_request (FrrReplace prog) = true
 is_request FrrPurge = true
 is_request (MgrAdd prog space) = true
 is_request (MgrDelete prog space) = true
-is_request op = names_unit op
+is_request _ = false

@@ -6,15 +6,17 @@ use Rattle.rtm_deck_items.specs.declared.deck.Line.{Line}
 use Rattle.rtm_deck_items.specs.declared.deck.Unit.{Unit as UnitCard}
 use Rattle.rtm_deck_items.specs.declared.deck.Command.{Command}
 use Rattle.rtm_deck_items.specs.View.{ProgramView, DeckView}
-use Rattle.rtm_deck_items.specs.Items.{Item, LimitCard, ProgramStart, ProgramCard, ProgramEnd, UnitOfWork, CommandsStart, CommandCard, DeckEnd}
+use Rattle.rtm_deck_items.specs.WellFormed.{has_region}
+use Rattle.rtm_deck_items.specs.Items.{Item, RegionCard, ProgramStart, ProgramCard, ProgramEnd, UnitOfWork, CommandsStart, CommandCard, DeckEnd}
 use Rattle.rtm_deck_items.specs.Canon.{item_line}
 
 -- the card that says the item, with its line feed
 abbrev pub item_text : DeckView → Item → List ℕ
 item_text d item = item_line d item ++ line_feed ∷ []
 
+-- REGION, where it has to stand there
 abbrev pub region_text : DeckView → List ℕ
-region_text d = if d.limit == 20000 then [] else item_text d (LimitCard d.limit)
+region_text d = if has_region d.limit d.sdwa then item_text d (RegionCard d.limit d.sdwa) else []
 
 abbrev pub line_text : DeckView → Line → List ℕ
 line_text d line = item_text d (ProgramCard line)

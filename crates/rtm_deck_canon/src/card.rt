@@ -10,6 +10,7 @@ ghost use Rattle.rtm_deck_items.specs.Canon.{card_line};
 use rtm_codes::NoMemory;
 use rtm_deck_items::{CardForm, Name};
 use rtm_deck_operands::{Values, push_name, push_operands};
+use rtm_text::push_bytes;
 
 /// Writes a card of that form: its name or nothing, its operation, and the values that aren't at their default.
 pub(crate) fn push_card(
@@ -50,11 +51,4 @@ fn push_label(out: &mut Vec<u8>, label: Option<Name>) -> Result<(), NoMemory>
         None => Ok(()),
         Some(name) => push_name(out, &name),
     }
-}
-
-fn push_bytes(out: &mut Vec<u8>, bytes: &[u8]) -> Result<(), NoMemory>
-    ensures { OnOk result (out.new.items ≡ out.old.items ++ bytes.now) }
-{
-    out.extend_from_slice(bytes)?;
-    Ok(())
 }

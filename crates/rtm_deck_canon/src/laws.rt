@@ -2,7 +2,7 @@
 
 ghost use Rattle.std.specs.Prelude.{◌≡◌, ℕ, ◌≤◌, IsTrue, List, length, map};
 ghost use Rattle.std.specs.List.{AllByRecursion};
-ghost use Rattle.rtm_cards.specs.Limits.{max_card_bytes};
+ghost use Rattle.rtm_cards.specs.Limits.{most_card_bytes};
 ghost use Rattle.rtm_cards.specs.Lines.{lines_of};
 ghost use Rattle.rtm_cards.specs.Cards.{card_of, cards_from};
 ghost use Rattle.rtm_deck_items.specs.View.{DeckView};
@@ -17,7 +17,7 @@ pub fn canonical_text_spells_its_deck()
 
     // Whatever is well formed, and has no card that is too long, can be spelled.
     ensures possible { (d : DeckView) → IsTrue (is_well_formed d)
-        → AllByRecursion (λ item. length (item_line d item) ≤ max_card_bytes) (canon_items d) → DeckText (canon d) d }
+        → AllByRecursion (λ item. length (item_line d item) ≤ most_card_bytes) (canon_items d) → DeckText (canon d) d }
 
     // It is cut back into the lines that were written.
     ensures lines { (d : DeckView) (bytes : List ℕ) → DeckText bytes d
@@ -30,7 +30,7 @@ pub fn no_spelling_is_shorter()
     ensures card { (d : DeckView) (number : ℕ) (line : List ℕ) (item : Item)
         → SpellsItem d (card_of number line) item → length (item_line d item) ≤ length line }
     ensures fits { (d : DeckView) (bytes : List ℕ) → DeckText bytes d
-        → AllByRecursion (λ item. length (item_line d item) ≤ max_card_bytes) (canon_items d) }
+        → AllByRecursion (λ item. length (item_line d item) ≤ most_card_bytes) (canon_items d) }
     ensures cards { (d : DeckView) (bytes : List ℕ) → DeckText bytes d
         → length (canon_items d) ≤ length (cards_from 1 (lines_of bytes)) }
 

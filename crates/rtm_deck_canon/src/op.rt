@@ -44,6 +44,7 @@ pub(crate) fn form_of_op(op: Op) -> CardForm
         Op::WaitTask { .. } => CardForm::WaitTask,
         Op::Post { .. } => CardForm::Post,
         Op::SetRp(_) => CardForm::SetRp,
+        Op::Ret15 { .. } => CardForm::Ret15,
         Op::Branch { .. } => CardForm::Branch,
         Op::IfCode { .. } => CardForm::IfCode,
         Op::IfClup { .. } => CardForm::IfClup,
@@ -61,13 +62,29 @@ pub(crate) fn values_of_op(deck: &Deck, op: &Op) -> Values
         Op::Link { prog } | Op::Xctl { prog } => one(program_name(deck, *prog)),
         Op::Wait { event } | Op::Post { event } => one(number(u32::from(*event))),
         Op::SetRp(setrp) => setrp_values(setrp),
+        Op::Ret15 { rc, label } => two(number(u32::from(*rc)), given_label(*label)),
         Op::Branch { label } | Op::IfClup { label } | Op::IfPerc { label } => one(name(label)),
         Op::IfCode { code, label } => two(code_value(*code), name(label)),
-        _ => values_of_request(deck, op),
+        Op::Abend { .. }
+        | Op::EstaexCt { .. }
+        | Op::EstaexOv { .. }
+        | Op::EstaexZero
+        | Op::FrrAdd { .. }
+        | Op::FrrDelete
+        | Op::FrrReplace { .. }
+        | Op::FrrPurge
+        | Op::MgrAdd { .. }
+        | Op::MgrDelete { .. } => values_of_request(deck, op),
+        Op::Attachx { .. }
+        | Op::Detach { .. }
+        | Op::Abterm { .. }
+        | Op::Memterm { .. }
+        | Op::Schedule { .. }
+        | Op::WaitTask { .. } => values_of_unit_op(deck, op),
     }
 }
 
-// The same, of an operation that asks for recovery or names a unit.
+// The same, of an abnormal end or a request for recovery or for a resource manager.
 fn values_of_request(deck: &Deck, op: &Op) -> Values
     requires { IsTrue (is_request op.now) }
     ensures { result.items ≡ values_of_op deck.now op.now }
@@ -96,11 +113,11 @@ fn values_of_request(deck: &Deck, op: &Op) -> Values
         Op::MgrAdd { prog, space } | Op::MgrDelete { prog, space } => {
             three(WORD, program_name(deck, *prog), flag(*space))
         }
-        _ => values_of_unit_op(deck, op),
+        _ => unreachable!("the caller hands on no other operation"),
     }
 }
 
-// The same, of an operation that names a unit.
+// The same, of an operation that names a unit, or ends them all.
 fn values_of_unit_op(deck: &Deck, op: &Op) -> Values
     requires { IsTrue (names_unit op.now) }
     ensures { result.items ≡ values_of_op deck.now op.now }
@@ -132,7 +149,7 @@ fn values_of_unit_op(deck: &Deck, op: &Op) -> Values
         } => { abterm_values(unit_name(deck, *unit), *code, *reason, *dump, *retry) }
         Op::Memterm { code } => two(WORD, code_value(*code)),
         Op::Schedule { unit } | Op::WaitTask { unit } => one(unit_name(deck, *unit)),
-        _ => Values::new(),
+        _ => unreachable!("the caller hands on no other operation"),
     }
 }
 

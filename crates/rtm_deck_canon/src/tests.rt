@@ -1,5 +1,7 @@
 //! A deck with each card, and its canonical text.
 
+ghost use Rattle.std.specs.Prelude.{◌≡◌, ◌⊎◌};
+
 use super::*;
 use rtm_codes::{Code, NoMemory};
 use rtm_deck_items::{Command, Deck, Line, Name, Op, Program, Res, Setrp, Three, Unit, UnitKind};
@@ -50,6 +52,8 @@ A NOP
 ONE PROG
  SETRP RC=16,RETADDR=A,REMREC=YES,COMPCOD=U0
  SETRP REASON=FFFFFFFF,DUMP=IGNORE,RECORD=NO,FRESDWA=NO
+ RET15 16
+ RET15 0,RETADDR=@2345678
  PEND
 JOB TASK PGM=MAIN
 SUB TASK PGM=ONE
@@ -231,19 +235,21 @@ fn sample(alloc: Global) -> Result<Deck, NoMemory> {
                 logrec: Some(Three::No),
                 fresdwa: Some(false),
             })),
+            card!(Op::Ret15 {
+                rc: 16,
+                label: None
+            }),
+            card!(Op::Ret15 {
+                rc: 0,
+                label: Some(Name(*b"@2345678"))
+            }),
         ],
     )?;
     let programs = Vec::from_array(
         alloc,
         [
-            Program {
-                name: Name(*b"MAIN    "),
-                lines,
-            },
-            Program {
-                name: Name(*b"ONE     "),
-                lines: recovery,
-            },
+            Program::new(alloc, Name(*b"MAIN    "), lines)?,
+            Program::new(alloc, Name(*b"ONE     "), recovery)?,
         ],
     )?;
     let units = Vec::from_array(
@@ -292,6 +298,7 @@ fn sample(alloc: Global) -> Result<Deck, NoMemory> {
     )?;
     Ok(Deck {
         limit: 1,
+        sdwa: true,
         programs,
         units,
         commands,
@@ -303,5 +310,63 @@ fn writes_each_card(rt: HostRuntime) -> Result<(), Fail> {
     let deck = sample(rt.alloc())?;
     let text = deck_text(rt.alloc(), &deck)?;
     assert_eq!(rt; text.as_slice(), TEXT);
+    Ok(())
+}
+
+// A deck of one task, with that REGION card or none.
+fn deck_of_region(alloc: Global, limit: u32, sdwa: bool) -> Result<Deck, NoMemory>
+    requires { (limit ≡ 20000) ⊎ (limit ≡ 7) }
+{
+    let programs = Vec::from_array(
+        alloc,
+        [Program::new(alloc, Name(*b"MAIN    "), Vec::new(alloc))?],
+    )?;
+    let units = Vec::from_array(
+        alloc,
+        [Unit {
+            name: Name(*b"JOB     "),
+            kind: UnitKind::Task,
+            prog: 0,
+            related: None,
+        }],
+    )?;
+    Ok(Deck {
+        limit,
+        sdwa,
+        programs,
+        units,
+        commands: Vec::new(alloc),
+    })
+}
+
+fn text_of_region(alloc: Global, limit: u32, sdwa: bool) -> Result<Vec<u8>, NoMemory>
+    requires { (limit ≡ 20000) ⊎ (limit ≡ 7) }
+{
+    let deck = deck_of_region(alloc, limit, sdwa)?;
+    deck_text(alloc, &deck)
+}
+
+#[test]
+fn writes_region_where_it_has_to_stand(rt: HostRuntime) -> Result<(), Fail> {
+    let text = text_of_region(rt.alloc(), 20_000, true)?;
+    assert_eq!(rt;
+        text.as_slice(),
+        b"MAIN PROG\n PEND\nJOB TASK PGM=MAIN\n END\n".as_slice()
+    );
+    let text = text_of_region(rt.alloc(), 20_000, false)?;
+    assert_eq!(rt;
+        text.as_slice(),
+        b" REGION SDWA=NO\nMAIN PROG\n PEND\nJOB TASK PGM=MAIN\n END\n".as_slice()
+    );
+    let text = text_of_region(rt.alloc(), 7, true)?;
+    assert_eq!(rt;
+        text.as_slice(),
+        b" REGION LIMIT=7\nMAIN PROG\n PEND\nJOB TASK PGM=MAIN\n END\n".as_slice()
+    );
+    let text = text_of_region(rt.alloc(), 7, false)?;
+    assert_eq!(rt;
+        text.as_slice(),
+        b" REGION LIMIT=7,SDWA=NO\nMAIN PROG\n PEND\nJOB TASK PGM=MAIN\n END\n".as_slice()
+    );
     Ok(())
 }

@@ -2,28 +2,28 @@
 
 ghost use Rattle.std.specs.Prelude.{◌≡◌, ◌++◌, OnOk, IfOk, IsTrue};
 ghost use Rattle.std.specs.List.{flat_map, list_all};
-ghost use Rattle.rtm_deck_items.specs.Items.{LimitCard};
+ghost use Rattle.rtm_deck_items.specs.WellFormed.{has_region};
+ghost use Rattle.rtm_deck_items.specs.Items.{RegionCard};
 ghost use Rattle.rtm_deck_items.specs.Canon.{canon};
 ghost use Rattle.rtm_deck_canon.specs.Fits.{item_fits, line_fits, program_fits, unit_fits, command_fits};
-ghost use Rattle.rtm_deck_canon.specs.Text.{region_text, line_text, program_text, unit_text, command_text, commands_text};
+ghost use Rattle.rtm_deck_canon.specs.Text.{region_text, line_text, program_text, unit_text};
+ghost use Rattle.rtm_deck_canon.specs.Text.{command_text, commands_text};
 
 use crate::card::{push_bare_card, push_card};
 use crate::op::{form_of_op, values_of_op};
 use crate::value::{flag, number, one, program_name, related_name, three, two, unit_name};
+use rtm_cards::DEFAULT_ENTRIES;
 use rtm_codes::NoMemory;
 use rtm_deck_items::{CardForm, Command, Deck, Line, Program, Unit, UnitKind};
 use rtm_deck_operands::Values;
 use std::alloc::Global;
 
-// How many entries a history may have where no REGION card stands.
-const DEFAULT_LIMIT: u32 = 20_000;
-
 /// The canonical text of a deck (this profile): the one spelling that is written.
 ///
-/// REGION stands first where the limit isn't the default, then the programs, the units and, behind OPER, the commands
-/// in their order, and END. Each card is its name or label, a blank, the operation and, where there are operands, a
-/// blank and the operands between commas, in the order of their table. An operand at its default is left out; SETRP
-/// has those that are given. Each card ends with a line feed. The only error is want of memory.
+/// REGION stands first where the limit isn't the default or routines get no SDWA, then the programs, the units and,
+/// behind OPER, the commands in their order, and END. Each card is its name or label, a blank, the operation and, where
+/// there are operands, a blank and the operands between commas, in the order of their table. An operand at its default
+/// is left out; SETRP has those that are given. Each card ends with a line feed. The only error is want of memory.
 pub fn deck_text(alloc: Global, deck: &Deck) -> Result<Vec<u8>, NoMemory>
     ensures { IfOk result (λ text. text.items ≡ canon deck.now) }
 {
@@ -37,16 +37,24 @@ pub fn deck_text(alloc: Global, deck: &Deck) -> Result<Vec<u8>, NoMemory>
     Ok(text)
 }
 
-// REGION, where the limit isn't the default.
+// REGION has to stand there.
+fn has_region(deck: &Deck) -> bool
+    ensures { result ≡ has_region deck.now.limit deck.now.sdwa }
+{
+    deck.limit != DEFAULT_ENTRIES || !deck.sdwa
+}
+
+// REGION, where it has to stand there.
 fn push_region(out: &mut Vec<u8>, deck: &Deck) -> Result<(), NoMemory>
-    requires { IsTrue (item_fits deck.now (LimitCard deck.now.limit)) }
+    requires { IsTrue (item_fits deck.now (RegionCard deck.now.limit deck.now.sdwa)) }
     ensures { OnOk result (out.new.items
         ≡ out.old.items ++ region_text deck.now) }
 {
-    if deck.limit == DEFAULT_LIMIT {
+    if !has_region(deck) {
         return Ok(());
     }
-    push_card(out, None, CardForm::Region, &one(number(deck.limit)))
+    let values = two(number(deck.limit), flag(deck.sdwa));
+    push_card(out, None, CardForm::Region, &values)
 }
 
 fn push_programs(out: &mut Vec<u8>, deck: &Deck) -> Result<(), NoMemory>
@@ -94,7 +102,8 @@ fn push_line(out: &mut Vec<u8>, deck: &Deck, line: &Line) -> Result<(), NoMemory
 
 fn push_units(out: &mut Vec<u8>, deck: &Deck) -> Result<(), NoMemory>
     requires { IsTrue (list_all (unit_fits deck.now) deck.now.units) }
-    ensures { OnOk result (out.new.items ≡ out.old.items ++ flat_map (unit_text deck.now) deck.now.units) }
+    ensures { OnOk result
+        (out.new.items ≡ out.old.items ++ flat_map (unit_text deck.now) deck.now.units) }
 {
     for unit in &deck.units {
         push_unit(out, deck, unit)?;

@@ -1,6 +1,6 @@
 -- What a deck that is spelled keeps.
 use Rattle.std.proofs.Common.{◌≡◌, ℕ, zero, suc, ◌≤◌, List, [], ◌∷◌, length, Option, Some, None, refl, sym, subst, arith}
-use Rattle.std.specs.Prelude.{IsTrue, slice_get, nat_le}
+use Rattle.std.specs.Prelude.{Bool, IsTrue, slice_get, nat_le}
 use Rattle.std.specs.List.{list_all, list_any}
 use Rattle.std.proofs.lemmas.Bool.{leb-true}
 use Rattle.std.proofs.Math.Bool.{Bool-set}
@@ -82,11 +82,11 @@ pub few_lines : (d : DeckView) → IsSpelled d → (i : ℕ) → length (lines_o
 few_lines d h i = lines_at d h i (slice_get d.programs i) refl
 
 -- a deck of the same parts is spelled too
-pub same_spelled : (limit : ℕ) (ps qs : List ProgramView) (us vs : List UnitCard) (cs ds : List Command)
+pub same_spelled : (limit : ℕ) (sdwa : Bool) (ps qs : List ProgramView) (us vs : List UnitCard) (cs ds : List Command)
     → ps ≡ qs → us ≡ vs → cs ≡ ds
-    → IsSpelled (record { limit = limit; programs = qs; units = vs; commands = ds })
-    → IsSpelled (record { limit = limit; programs = ps; units = us; commands = cs })
-same_spelled limit ps qs us vs cs ds e f g h =
-    subst (λ (x : List ProgramView). IsSpelled (record { limit = limit; programs = x; units = us; commands = cs })) (sym e)
-    (subst (λ (x : List UnitCard). IsSpelled (record { limit = limit; programs = qs; units = x; commands = cs })) (sym f)
-    (subst (λ (x : List Command). IsSpelled (record { limit = limit; programs = qs; units = vs; commands = x })) (sym g) h))
+    → IsSpelled (record { limit = limit; sdwa = sdwa; programs = qs; units = vs; commands = ds })
+    → IsSpelled (record { limit = limit; sdwa = sdwa; programs = ps; units = us; commands = cs })
+same_spelled limit sdwa ps qs us vs cs ds e f g h =
+    subst (λ (x : List ProgramView). IsSpelled (record { limit = limit; sdwa = sdwa; programs = x; units = us; commands = cs })) (sym e)
+    (subst (λ (x : List UnitCard). IsSpelled (record { limit = limit; sdwa = sdwa; programs = qs; units = x; commands = cs })) (sym f)
+    (subst (λ (x : List Command). IsSpelled (record { limit = limit; sdwa = sdwa; programs = qs; units = vs; commands = x })) (sym g) h))

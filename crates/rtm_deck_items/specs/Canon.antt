@@ -7,6 +7,7 @@ use Rattle.rtm_deck_operands.specs.Slot.{canon_operands, field_of}
 use Rattle.rtm_deck_items.specs.declared.form.CardForm.{CardForm}
 use Rattle.rtm_deck_items.specs.Forms.{operation_of, slots_of}
 use Rattle.rtm_deck_items.specs.View.{DeckView}
+use Rattle.rtm_deck_items.specs.WellFormed.{has_region}
 use Rattle.rtm_deck_items.specs.Items.{Item, Block, ProgramBlock, UnitBlock, form_of, values_of, name_of, items_of}
 
 -- A card: its name or nothing, a blank, the operation, and where there are operands a blank and the operands between
@@ -22,9 +23,10 @@ item_line d item = card_line (name_of item) (form_of item) (values_of d item)
 abbrev pub canon_blocks : DeckView → List Block
 canon_blocks d = map ProgramBlock d.programs ++ map UnitBlock d.units
 
--- REGION where the limit isn't the default, the programs and the units in their order, OPER where there is a command, END
+-- REGION where the limit isn't the default or routines get no SDWA, the programs and the units in their order, OPER where
+-- there is a command, END
 abbrev pub canon_items : DeckView → List Item
-canon_items d = items_of (not (d.limit == 20000)) (not (length d.commands == 0)) (canon_blocks d) d
+canon_items d = items_of (has_region d.limit d.sdwa) (not (length d.commands == 0)) (canon_blocks d) d
 
 -- the canonical text: a line for each card, ended by a line feed
 abbrev pub canon : DeckView → List ℕ

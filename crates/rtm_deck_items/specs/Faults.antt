@@ -4,8 +4,13 @@ use Rattle.std.specs.Option.{option_map_or}
 use Rattle.std.specs.List.{list_any}
 use Rattle.rtm_deck_operands.specs.declared.value.Value.{Value}
 use Rattle.rtm_deck_operands.specs.declared.value.Value.TheVariants.{Name}
+use Rattle.rtm_deck_operands.specs.declared.slot.Slot.{Slot}
+use Rattle.rtm_deck_operands.specs.declared.slot.Kind.{Kind}
+use Rattle.rtm_deck_operands.specs.declared.slot.Kind.TheVariants as kinds
+use Rattle.rtm_deck_operands.specs.declared.slot.NameOf.{NameOf}
+use Rattle.rtm_deck_operands.specs.declared.slot.NameOf.TheVariants as names
 use Rattle.rtm_deck_operands.specs.Name.{trimmed_text}
-use Rattle.rtm_cards.specs.Limits.{max_bytes}
+use Rattle.rtm_cards.specs.Limits.{most_bytes, most_programs, most_units, most_commands}
 use Rattle.rtm_cards.specs.Lines.{lines_of, number_at}
 use Rattle.rtm_cards.specs.Rules.{fault_of, is_ignored}
 use Rattle.rtm_cards.specs.Cards.{CardText, card_of, cards_from}
@@ -17,7 +22,7 @@ use Rattle.rtm_deck_items.specs.declared.form.CardForm.{CardForm}
 use Rattle.rtm_deck_items.specs.declared.form.CardForm.TheVariants as forms
 use Rattle.rtm_deck_items.specs.declared.form.NameField.{NameField}
 use Rattle.rtm_deck_items.specs.declared.form.NameField.TheVariants.{Needed, Allowed, Refused}
-use Rattle.rtm_deck_items.specs.Forms.{operation_of, name_field, is_inside, form_named}
+use Rattle.rtm_deck_items.specs.Forms.{operation_of, slots_of, name_field, is_inside, form_named}
 use Rattle.rtm_deck_items.specs.Spelling.{SpellsForm}
 
 -- the card has that operation
@@ -80,10 +85,10 @@ is_doubled earlier _ name = not (length name == 0) && list_any (is_named name) (
 
 -- one program, unit or command more than there may be
 abbrev pub is_over_limit : List CardText → CardForm → Bool
-is_over_limit earlier forms.Prog = nat_le 256 (count_by (is_called (codes "PROG")) earlier)
-is_over_limit earlier forms.Task = nat_le 64 (count_by is_unit_card earlier)
-is_over_limit earlier forms.Srb = nat_le 64 (count_by is_unit_card earlier)
-is_over_limit earlier forms.Cancel = nat_le 64 (count_by (is_called (codes "CANCEL")) earlier)
+is_over_limit earlier forms.Prog = nat_le most_programs (count_by (is_called (codes "PROG")) earlier)
+is_over_limit earlier forms.Task = nat_le most_units (count_by is_unit_card earlier)
+is_over_limit earlier forms.Srb = nat_le most_units (count_by is_unit_card earlier)
+is_over_limit earlier forms.Cancel = nat_le most_commands (count_by (is_called (codes "CANCEL")) earlier)
 is_over_limit earlier _ = false
 
 -- END though no task stands before
@@ -163,71 +168,38 @@ abbrev pub NoFormFault : List CardText → ℕ → List (List ℕ) → Type 0
 NoFormFault earlier number [] = Unit {0}
 NoFormFault earlier number (line ∷ lines) = HasNone earlier number line (fault_of number line) × NoFormFault (with_line earlier number line) (number + 1) lines
 
--- what an operand names: a program, a task, an SRB, a label of the own program or of any, or nothing
-pub data Reference : Type 0 where
-  AProgram : Reference
-  ATask : Reference
-  AnSrb : Reference
-  OwnLabel : Reference
-  AnyLabel : Reference
-  Nothing : Reference
-
--- what the operands of a form name, in the order of its values
-abbrev pub references_of : CardForm → List Reference
-references_of forms.Task = AProgram ∷ []
-references_of forms.Srb = AProgram ∷ ATask ∷ []
-references_of forms.Cancel = ATask ∷ []
-references_of forms.Link = AProgram ∷ []
-references_of forms.Xctl = AProgram ∷ []
-references_of forms.EstaexCt = Nothing ∷ AProgram ∷ []
-references_of forms.EstaexOv = Nothing ∷ AProgram ∷ []
-references_of forms.FrrAdd = Nothing ∷ AProgram ∷ []
-references_of forms.FrrReplace = Nothing ∷ AProgram ∷ []
-references_of forms.Attachx = ATask ∷ []
-references_of forms.AttachxEstai = ATask ∷ AProgram ∷ []
-references_of forms.Detach = ATask ∷ []
-references_of forms.Abterm = Nothing ∷ ATask ∷ []
-references_of forms.MgrAdd = Nothing ∷ AProgram ∷ []
-references_of forms.MgrDelete = Nothing ∷ AProgram ∷ []
-references_of forms.Schedule = AnSrb ∷ []
-references_of forms.WaitTask = ATask ∷ []
-references_of forms.SetRp = Nothing ∷ AnyLabel ∷ []
-references_of forms.Branch = OwnLabel ∷ []
-references_of forms.IfCode = Nothing ∷ OwnLabel ∷ []
-references_of forms.IfClup = OwnLabel ∷ []
-references_of forms.IfPerc = OwnLabel ∷ []
-references_of _ = []
-
 -- a card of a program with that label
 abbrev pub is_labelled : List ℕ → CardText → Bool
 is_labelled label c = option_map_or is_inside (form_named c.op) false && is_named label c
 
--- what an operand names is there: among all cards, or for a label of the own program among that program's
-abbrev pub is_found : List CardText → List CardText → Reference → List ℕ → Bool
-is_found cards own AProgram name = list_any (λ c. is_called (codes "PROG") c && is_named name c) cards
-is_found cards own ATask name = list_any (λ c. is_called (codes "TASK") c && is_named name c) cards
-is_found cards own AnSrb name = list_any (λ c. is_called (codes "SRB") c && is_named name c) cards
-is_found cards own OwnLabel name = list_any (is_named name) own
-is_found cards own AnyLabel name = list_any (is_labelled name) cards
-is_found cards own Nothing name = true
+-- what a name names is there: among all cards, or for a label of the own program among that program's
+abbrev pub is_found : List CardText → List CardText → NameOf → List ℕ → Bool
+is_found cards own names.Program name = list_any (λ c. is_called (codes "PROG") c && is_named name c) cards
+is_found cards own names.Task name = list_any (λ c. is_called (codes "TASK") c && is_named name c) cards
+is_found cards own names.Srb name = list_any (λ c. is_called (codes "SRB") c && is_named name c) cards
+is_found cards own names.OwnLabel name = list_any (is_named name) own
+is_found cards own names.AnyLabel name = list_any (is_labelled name) cards
 
 -- the fault of a name that isn't there
-abbrev pub why_of_reference : Reference → Why
-why_of_reference OwnLabel = UnknownLabel
-why_of_reference AnyLabel = UnknownLabel
-why_of_reference _ = UnknownName
+abbrev pub why_of_name : NameOf → Why
+why_of_name names.Program = UnknownName
+why_of_name names.Task = UnknownName
+why_of_name names.Srb = UnknownName
+why_of_name names.OwnLabel = UnknownLabel
+why_of_name names.AnyLabel = UnknownLabel
 
--- the value names something that is there, or nothing
-abbrev pub is_value_found : List CardText → List CardText → Reference → Option Value → Bool
-is_value_found cards own reference (Some (Name name)) = is_found cards own reference (trimmed_text name)
-is_value_found cards own reference _ = true
+-- The value of an operand of that kind names what isn't there, which is that fault.
+abbrev pub IsUnfound : List CardText → List CardText → Kind → Option Value → Why → Type 0
+IsUnfound cards own (kinds.Name named) (Some (Name name)) why =
+    IsTrue (not (is_found cards own named (trimmed_text name))) × (why ≡ why_of_name named)
+IsUnfound cards own kind value why = ⊥
 
--- One of the values names what isn't there, which is that fault.
-abbrev pub NamesUnfound : List CardText → List CardText → List Reference → List (Option Value) → Why → Type 0
+-- One of the values of these slots names what isn't there, which is that fault.
+abbrev pub NamesUnfound : List CardText → List CardText → List Slot → List (Option Value) → Why → Type 0
 NamesUnfound cards own [] values why = ⊥
-NamesUnfound cards own (reference ∷ references) [] why = ⊥
-NamesUnfound cards own (reference ∷ references) (value ∷ values) why =
-    (IsTrue (not (is_value_found cards own reference value)) × (why ≡ why_of_reference reference)) ⊎ NamesUnfound cards own references values why
+NamesUnfound cards own (slot ∷ slots) [] why = ⊥
+NamesUnfound cards own (slot ∷ slots) (value ∷ values) why =
+    IsUnfound cards own slot.kind value why ⊎ NamesUnfound cards own slots values why
 
 -- Among these cards, with those of its own program, the card names what isn't there, which is that fault.
 pub record HasNameFault (cards own : List CardText) (c : CardText) (why : Why) : Type 0 where
@@ -235,7 +207,7 @@ pub record HasNameFault (cards own : List CardText) (c : CardText) (why : Why) :
   pub values : List (Option Value)
   pub operation : operation_of form ≡ c.op
   pub operands : SpellsForm form c.operands values
-  pub unfound : NamesUnfound cards own (references_of form) values why
+  pub unfound : NamesUnfound cards own (slots_of form) values why
 
 -- the cards of the program of a card, with those that stand before it and behind it
 abbrev pub own_program : List CardText → CardText → List CardText → List CardText
@@ -267,5 +239,5 @@ LinesFault lines card why = FormFault [] 1 lines card why ⊎ (LacksEnd lines ca
 
 -- The input has that first fault: too many bytes, at the card that holds the first byte too many; else that of its lines.
 pub record IsFirstFault (bytes : List ℕ) (card : ℕ) (why : Why) : Type 0 where
-  pub by_size : max_bytes < length bytes → (card ≡ number_at bytes max_bytes) × (why ≡ TooLong)
-  pub by_card : length bytes ≤ max_bytes → LinesFault (lines_of bytes) card why
+  pub by_size : most_bytes < length bytes → (card ≡ number_at bytes most_bytes) × (why ≡ TooLong)
+  pub by_card : length bytes ≤ most_bytes → LinesFault (lines_of bytes) card why

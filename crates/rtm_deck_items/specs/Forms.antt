@@ -1,17 +1,20 @@
 -- The forms of cards: the operation, what stands in the name field, where the card may stand, and its operands (this
 -- profile; the operands follow the macros' own in Authorized Assembler Services Reference, as far as they are kept).
 use Rattle.std.specs.Prelude.{ℕ, Bool, true, false, List, [], ◌∷◌, Option, codes, bytes_eq, find}
+use Rattle.rtm_cards.specs.Limits.{most_entries, default_entries}
 use Rattle.rtm_deck_operands.specs.declared.slot.Slot.{Slot}
 use Rattle.rtm_deck_operands.specs.declared.slot.Kind.TheVariants.{Word, Number, ReturnCode, Name, Code, AbendCode, Reason, YesNo, YesNoIgnore, Class, Scope}
+use Rattle.rtm_deck_operands.specs.declared.slot.NameOf.TheVariants.{Program, OwnLabel, AnyLabel}
+use Rattle.rtm_deck_operands.specs.declared.slot.NameOf.TheVariants as names
 use Rattle.rtm_deck_operands.specs.Slot.{positional_slot, needed_slot, optional_slot, default_flag, default_number}
 use Rattle.rtm_deck_items.specs.declared.form.CardForm.{CardForm}
-use Rattle.rtm_deck_items.specs.declared.form.CardForm.TheVariants.{Region, Prog, Pend, Task, Srb, Oper, Cancel, End, Nop, Get, Free, Link, Xctl, Return, Abend, EstaexCt, EstaexOv, EstaexZero, FrrAdd, FrrDelete, FrrReplace, FrrPurge, Attachx, AttachxEstai, Detach, Abterm, Memterm, MgrAdd, MgrDelete, Schedule, Wait, WaitTask, Post, SetRp, Branch, IfCode, IfClup, IfPerc}
+use Rattle.rtm_deck_items.specs.declared.form.CardForm.TheVariants.{Region, Prog, Pend, Task, Srb, Oper, Cancel, End, Nop, Get, Free, Link, Xctl, Return, Abend, EstaexCt, EstaexOv, EstaexZero, FrrAdd, FrrDelete, FrrReplace, FrrPurge, Attachx, AttachxEstai, Detach, Abterm, Memterm, MgrAdd, MgrDelete, Schedule, Wait, WaitTask, Post, SetRp, Ret15, Branch, IfCode, IfClup, IfPerc}
 use Rattle.rtm_deck_items.specs.declared.form.NameField.{NameField}
 use Rattle.rtm_deck_items.specs.declared.form.NameField.TheVariants.{Needed, Allowed, Refused}
 
 -- all forms of cards
 abbrev pub all_forms : List CardForm
-all_forms = Region ∷ Prog ∷ Pend ∷ Task ∷ Srb ∷ Oper ∷ Cancel ∷ End ∷ Nop ∷ Get ∷ Free ∷ Link ∷ Xctl ∷ Return ∷ Abend ∷ EstaexCt ∷ EstaexOv ∷ EstaexZero ∷ FrrAdd ∷ FrrDelete ∷ FrrReplace ∷ FrrPurge ∷ Attachx ∷ AttachxEstai ∷ Detach ∷ Abterm ∷ Memterm ∷ MgrAdd ∷ MgrDelete ∷ Schedule ∷ Wait ∷ WaitTask ∷ Post ∷ SetRp ∷ Branch ∷ IfCode ∷ IfClup ∷ IfPerc ∷ []
+all_forms = Region ∷ Prog ∷ Pend ∷ Task ∷ Srb ∷ Oper ∷ Cancel ∷ End ∷ Nop ∷ Get ∷ Free ∷ Link ∷ Xctl ∷ Return ∷ Abend ∷ EstaexCt ∷ EstaexOv ∷ EstaexZero ∷ FrrAdd ∷ FrrDelete ∷ FrrReplace ∷ FrrPurge ∷ Attachx ∷ AttachxEstai ∷ Detach ∷ Abterm ∷ Memterm ∷ MgrAdd ∷ MgrDelete ∷ Schedule ∷ Wait ∷ WaitTask ∷ Post ∷ SetRp ∷ Ret15 ∷ Branch ∷ IfCode ∷ IfClup ∷ IfPerc ∷ []
 
 -- what stands in the operation field
 abbrev pub operation_of : CardForm → List ℕ
@@ -49,6 +52,7 @@ operation_of Wait = codes "WAIT"
 operation_of WaitTask = codes "WAITT"
 operation_of Post = codes "POST"
 operation_of SetRp = codes "SETRP"
+operation_of Ret15 = codes "RET15"
 operation_of Branch = codes "B"
 operation_of IfCode = codes "IFCODE"
 operation_of IfClup = codes "IFCLUP"
@@ -56,47 +60,49 @@ operation_of IfPerc = codes "IFPERC"
 
 -- the operands, in the order in which they are written: positional ones first
 abbrev pub slots_of : CardForm → List Slot
-slots_of Region = needed_slot (codes "LIMIT   ") (Number 1 100000) ∷ []
+slots_of Region = default_number (codes "LIMIT   ") (Number 1 most_entries) default_entries ∷ default_flag (codes "SDWA    ") YesNo true ∷ []
 slots_of Prog = []
 slots_of Pend = []
-slots_of Task = needed_slot (codes "PGM     ") Name ∷ []
-slots_of Srb = needed_slot (codes "PGM     ") Name ∷ optional_slot (codes "TASK    ") Name ∷ []
+slots_of Task = needed_slot (codes "PGM     ") (Name Program) ∷ []
+slots_of Srb = needed_slot (codes "PGM     ") (Name Program) ∷ optional_slot (codes "TASK    ") (Name names.Task) ∷ []
 slots_of Oper = []
-slots_of Cancel = positional_slot Name ∷ default_number (codes "AT      ") (Number 0 100000) 0 ∷ default_flag (codes "DUMP    ") YesNo false ∷ []
+slots_of Cancel = positional_slot (Name names.Task) ∷ default_number (codes "AT      ") (Number 0 most_entries) 0 ∷ default_flag (codes "DUMP    ") YesNo false ∷ []
 slots_of End = []
 slots_of Nop = []
 slots_of Get = positional_slot Class ∷ positional_slot (Number 0 999999) ∷ []
 slots_of Free = positional_slot Class ∷ positional_slot (Number 0 999999) ∷ []
-slots_of Link = positional_slot Name ∷ []
-slots_of Xctl = positional_slot Name ∷ []
+slots_of Link = positional_slot (Name Program) ∷ []
+slots_of Xctl = positional_slot (Name Program) ∷ []
 slots_of Return = []
 slots_of Abend = positional_slot AbendCode ∷ optional_slot (codes "REASON  ") Reason ∷ default_flag (codes "DUMP    ") YesNo false ∷ default_flag (codes "STEP    ") YesNo false ∷ []
-slots_of EstaexCt = positional_slot (Word (codes "CT      ")) ∷ needed_slot (codes "PGM     ") Name ∷ default_flag (codes "TERM    ") YesNo false ∷ default_flag (codes "CANCEL  ") YesNo true ∷ default_flag (codes "XCTL    ") YesNo false ∷ []
-slots_of EstaexOv = positional_slot (Word (codes "OV      ")) ∷ needed_slot (codes "PGM     ") Name ∷ default_flag (codes "TERM    ") YesNo false ∷ default_flag (codes "CANCEL  ") YesNo true ∷ default_flag (codes "XCTL    ") YesNo false ∷ []
+slots_of EstaexCt = positional_slot (Word (codes "CT      ")) ∷ needed_slot (codes "PGM     ") (Name Program) ∷ default_flag (codes "TERM    ") YesNo false ∷ default_flag (codes "CANCEL  ") YesNo true ∷ default_flag (codes "XCTL    ") YesNo false ∷ []
+slots_of EstaexOv = positional_slot (Word (codes "OV      ")) ∷ needed_slot (codes "PGM     ") (Name Program) ∷ default_flag (codes "TERM    ") YesNo false ∷ default_flag (codes "CANCEL  ") YesNo true ∷ default_flag (codes "XCTL    ") YesNo false ∷ []
 slots_of EstaexZero = positional_slot (Word (codes "0       ")) ∷ []
-slots_of FrrAdd = positional_slot (Word (codes "A       ")) ∷ needed_slot (codes "PGM     ") Name ∷ []
+slots_of FrrAdd = positional_slot (Word (codes "A       ")) ∷ needed_slot (codes "PGM     ") (Name Program) ∷ []
 slots_of FrrDelete = positional_slot (Word (codes "D       ")) ∷ []
-slots_of FrrReplace = positional_slot (Word (codes "R       ")) ∷ needed_slot (codes "PGM     ") Name ∷ []
+slots_of FrrReplace = positional_slot (Word (codes "R       ")) ∷ needed_slot (codes "PGM     ") (Name Program) ∷ []
 slots_of FrrPurge = positional_slot (Word (codes "P       ")) ∷ []
-slots_of Attachx = positional_slot Name ∷ []
-slots_of AttachxEstai = positional_slot Name ∷ needed_slot (codes "ESTAI   ") Name ∷ default_flag (codes "TERM    ") YesNo false ∷ []
-slots_of Detach = positional_slot Name ∷ default_flag (codes "STAE    ") YesNo false ∷ []
-slots_of Abterm = positional_slot (Word (codes "ABTERM  ")) ∷ needed_slot (codes "TASK    ") Name ∷ needed_slot (codes "COMPCOD ") AbendCode ∷ optional_slot (codes "REASON  ") Reason ∷ default_flag (codes "DUMP    ") YesNo false ∷ default_flag (codes "RETRY   ") YesNo true ∷ []
+slots_of Attachx = positional_slot (Name names.Task) ∷ []
+slots_of AttachxEstai = positional_slot (Name names.Task) ∷ needed_slot (codes "ESTAI   ") (Name Program) ∷ default_flag (codes "TERM    ") YesNo false ∷ []
+slots_of Detach = positional_slot (Name names.Task) ∷ default_flag (codes "STAE    ") YesNo false ∷ []
+slots_of Abterm = positional_slot (Word (codes "ABTERM  ")) ∷ needed_slot (codes "TASK    ") (Name names.Task) ∷ needed_slot (codes "COMPCOD ") AbendCode ∷ optional_slot (codes "REASON  ") Reason ∷ default_flag (codes "DUMP    ") YesNo false ∷ default_flag (codes "RETRY   ") YesNo true ∷ []
 slots_of Memterm = positional_slot (Word (codes "MEMTERM ")) ∷ needed_slot (codes "COMPCOD ") AbendCode ∷ []
-slots_of MgrAdd = positional_slot (Word (codes "ADD     ")) ∷ needed_slot (codes "PGM     ") Name ∷ needed_slot (codes "TYPE    ") Scope ∷ []
-slots_of MgrDelete = positional_slot (Word (codes "DELETE  ")) ∷ needed_slot (codes "PGM     ") Name ∷ needed_slot (codes "TYPE    ") Scope ∷ []
-slots_of Schedule = positional_slot Name ∷ []
+slots_of MgrAdd = positional_slot (Word (codes "ADD     ")) ∷ needed_slot (codes "PGM     ") (Name Program) ∷ needed_slot (codes "TYPE    ") Scope ∷ []
+slots_of MgrDelete = positional_slot (Word (codes "DELETE  ")) ∷ needed_slot (codes "PGM     ") (Name Program) ∷ needed_slot (codes "TYPE    ") Scope ∷ []
+slots_of Schedule = positional_slot (Name names.Srb) ∷ []
 slots_of Wait = positional_slot (Number 0 255) ∷ []
-slots_of WaitTask = positional_slot Name ∷ []
+slots_of WaitTask = positional_slot (Name names.Task) ∷ []
 slots_of Post = positional_slot (Number 0 255) ∷ []
-slots_of SetRp = optional_slot (codes "RC      ") ReturnCode ∷ optional_slot (codes "RETADDR ") Name ∷ optional_slot (codes "REMREC  ") YesNo ∷ optional_slot (codes "COMPCOD ") AbendCode ∷ optional_slot (codes "REASON  ") Reason ∷ optional_slot (codes "DUMP    ") YesNoIgnore ∷ optional_slot (codes "RECORD  ") YesNoIgnore ∷ optional_slot (codes "FRESDWA ") YesNo ∷ []
-slots_of Branch = positional_slot Name ∷ []
-slots_of IfCode = positional_slot Code ∷ positional_slot Name ∷ []
-slots_of IfClup = positional_slot Name ∷ []
-slots_of IfPerc = positional_slot Name ∷ []
+slots_of SetRp = optional_slot (codes "RC      ") ReturnCode ∷ optional_slot (codes "RETADDR ") (Name AnyLabel) ∷ optional_slot (codes "REMREC  ") YesNo ∷ optional_slot (codes "COMPCOD ") AbendCode ∷ optional_slot (codes "REASON  ") Reason ∷ optional_slot (codes "DUMP    ") YesNoIgnore ∷ optional_slot (codes "RECORD  ") YesNoIgnore ∷ optional_slot (codes "FRESDWA ") YesNo ∷ []
+slots_of Ret15 = positional_slot ReturnCode ∷ optional_slot (codes "RETADDR ") (Name AnyLabel) ∷ []
+slots_of Branch = positional_slot (Name OwnLabel) ∷ []
+slots_of IfCode = positional_slot Code ∷ positional_slot (Name OwnLabel) ∷ []
+slots_of IfClup = positional_slot (Name OwnLabel) ∷ []
+slots_of IfPerc = positional_slot (Name OwnLabel) ∷ []
 
 -- at least one operand has to stand there, though none is needed
 abbrev pub needs_some : CardForm → Bool
+needs_some Region = true
 needs_some SetRp = true
 needs_some _ = false
 

@@ -18,7 +18,7 @@ use Rattle.rtm_deck_items.specs.View.{ProgramView, DeckView}
 
 -- what one card says
 pub data Item : Type 0 where
-  LimitCard : (limit : ℕ) → Item
+  RegionCard : (limit : ℕ) (sdwa : Bool) → Item
   ProgramStart : (name : List ℕ) → Item
   ProgramCard : (line : Line) → Item
   ProgramEnd : Item
@@ -72,6 +72,7 @@ form_of_op (ops.Wait event) = forms.Wait
 form_of_op (ops.WaitTask unit) = forms.WaitTask
 form_of_op (ops.Post event) = forms.Post
 form_of_op (ops.SetRp setrp) = forms.SetRp
+form_of_op (ops.Ret15 rc label) = forms.Ret15
 form_of_op (ops.Branch label) = forms.Branch
 form_of_op (ops.IfCode code label) = forms.IfCode
 form_of_op (ops.IfClup label) = forms.IfClup
@@ -105,6 +106,7 @@ values_of_op d (ops.Wait event) = some (Number event) ∷ []
 values_of_op d (ops.WaitTask unit) = unit_name d unit ∷ []
 values_of_op d (ops.Post event) = some (Number event) ∷ []
 values_of_op d (ops.SetRp s) = option_map Number s.rc ∷ option_map Name s.retaddr ∷ option_map Flag s.remrec ∷ option_map Code s.compcod ∷ option_map Reason s.reason ∷ option_map Three s.dump ∷ option_map Three s.logrec ∷ option_map Flag s.fresdwa ∷ []
+values_of_op d (ops.Ret15 rc label) = some (Number rc) ∷ option_map Name label ∷ []
 values_of_op d (ops.Branch label) = some (Name label) ∷ []
 values_of_op d (ops.IfCode code label) = some (Code code) ∷ some (Name label) ∷ []
 values_of_op d (ops.IfClup label) = some (Name label) ∷ []
@@ -122,7 +124,7 @@ values_of_unit d Srb unit = program_name d unit.prog ∷ related_name d unit.rel
 
 -- the form of the card that says it
 abbrev pub form_of : Item → CardForm
-form_of (LimitCard limit) = forms.Region
+form_of (RegionCard limit sdwa) = forms.Region
 form_of (ProgramStart name) = forms.Prog
 form_of (ProgramCard line) = form_of_op line.op
 form_of ProgramEnd = forms.Pend
@@ -133,7 +135,7 @@ form_of DeckEnd = forms.End
 
 -- the values of the operands of the card that says it
 abbrev pub values_of : DeckView → Item → List (Option Value)
-values_of d (LimitCard limit) = some (Number limit) ∷ []
+values_of d (RegionCard limit sdwa) = some (Number limit) ∷ some (Flag sdwa) ∷ []
 values_of d (ProgramStart name) = []
 values_of d (ProgramCard line) = values_of_op d line.op
 values_of d ProgramEnd = []
@@ -165,8 +167,8 @@ items_of_block (ProgramBlock program) = ProgramStart program.name ∷ map Progra
 items_of_block (UnitBlock unit) = UnitOfWork unit ∷ []
 
 -- REGION, where it is given
-abbrev pub opening_items : Bool → ℕ → List Item
-opening_items given limit = if given then LimitCard limit ∷ [] else []
+abbrev pub opening_items : Bool → ℕ → Bool → List Item
+opening_items given limit sdwa = if given then RegionCard limit sdwa ∷ [] else []
 
 -- OPER, where it is given, and the commands
 abbrev pub closing_items : Bool → List Command → List Item
@@ -174,4 +176,4 @@ closing_items given commands = if given then CommandsStart ∷ map CommandCard c
 
 -- what the cards of a deck say whose programs and units stand in the order of these blocks
 abbrev pub items_of : Bool → Bool → List Block → DeckView → List Item
-items_of region oper blocks d = opening_items region d.limit ++ flat_map items_of_block blocks ++ closing_items oper d.commands ++ DeckEnd ∷ []
+items_of region oper blocks d = opening_items region d.limit d.sdwa ++ flat_map items_of_block blocks ++ closing_items oper d.commands ++ DeckEnd ∷ []

@@ -1,9 +1,9 @@
 -- How a deck is spelled: which bytes spell it, said apart from how they are read (this profile).
-use Rattle.std.specs.Prelude.{◌≡◌, ℕ, Bool, IsTrue, not, List, [], ◌∷◌, Option, is_some}
-use Rattle.std.specs.List.{list_any}
+use Rattle.std.specs.Prelude.{◌≡◌, ℕ, Bool, true, IsTrue, not, ◌==◌, List, [], ◌∷◌, Option, length}
 use Rattle.rtm_deck_operands.specs.declared.value.Value.{Value}
 use Rattle.rtm_deck_operands.specs.declared.slot.Slot.{Slot}
 use Rattle.rtm_deck_operands.specs.Slot.{SpellsSlots}
+use Rattle.rtm_cards.specs.Limits.{default_entries}
 use Rattle.rtm_cards.specs.Lines.{lines_of}
 use Rattle.rtm_cards.specs.Cards.{CardText, cards_from}
 use Rattle.rtm_cards.specs.Faults.{HasNoFault}
@@ -19,10 +19,10 @@ abbrev pub SpellsOperands : List Slot → List (List ℕ) → List (Option Value
 SpellsOperands [] operands values = values ≡ []
 SpellsOperands (slot ∷ slots) operands values = SpellsSlots (slot ∷ slots) operands values
 
--- The operands spell the values of the form, and some value is given where the form asks for one.
+-- The operands spell the values of the form, and some operand stands there where the form asks for one.
 pub record SpellsForm (form : CardForm) (operands : List (List ℕ)) (values : List (Option Value)) : Type 0 where
   pub spelled : SpellsOperands (slots_of form) operands values
-  pub some : IsTrue (needs_some form) → IsTrue (list_any is_some values)
+  pub some : IsTrue (needs_some form) → IsTrue (not (length operands == 0))
 
 -- The card says the item, in the deck whose programs and units it names.
 pub record SpellsItem (d : DeckView) (c : CardText) (item : Item) : Type 0 where
@@ -49,15 +49,16 @@ units_in (ProgramBlock program ∷ blocks) = units_in blocks
 units_in (UnitBlock unit ∷ blocks) = unit ∷ units_in blocks
 
 -- The cards, without comments and blank ones, spell the deck: an optional REGION, programs and units of work in any
--- order, an optional OPER with the commands, and END. Without REGION the limit is the default, without OPER there are
--- no commands.
+-- order, an optional OPER with the commands, and END. Without REGION the limit is the default and routines get an SDWA,
+-- without OPER there are no commands.
 pub record SpellsDeck (cards : List CardText) (d : DeckView) : Type 0 where
   pub region : Bool
   pub oper : Bool
   pub blocks : List Block
   pub programs : programs_in blocks ≡ d.programs
   pub units : units_in blocks ≡ d.units
-  pub limit : IsTrue (not region) → d.limit ≡ 20000
+  pub limit : IsTrue (not region) → d.limit ≡ default_entries
+  pub sdwa : IsTrue (not region) → d.sdwa ≡ true
   pub commands : IsTrue (not oper) → d.commands ≡ []
   pub each : SpellEach d cards (items_of region oper blocks d)
 

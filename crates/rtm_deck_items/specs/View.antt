@@ -1,5 +1,5 @@
 -- A deck as plain data: what contracts see of it, with lists in the place of vectors.
-use Rattle.std.specs.Prelude.{ℕ, List}
+use Rattle.std.specs.Prelude.{ℕ, Bool, List}
 use Rattle.rtm_deck_items.specs.declared.deck.Line.{Line}
 use Rattle.rtm_deck_items.specs.declared.deck.Unit.{Unit as UnitCard}
 use Rattle.rtm_deck_items.specs.declared.deck.Command.{Command}
@@ -9,9 +9,11 @@ pub record ProgramView : Type 0 where
   pub name : List ℕ
   pub lines : List Line
 
--- a deck: the limit of entries, and programs, units and commands in the order of their cards
+-- a deck: the limit of entries, whether ESTAE and ESTAI routines get an SDWA, and programs, units and commands in the
+-- order of their cards
 pub record DeckView : Type 0 where
   pub limit : ℕ
+  pub sdwa : Bool
   pub programs : List ProgramView
   pub units : List UnitCard
   pub commands : List Command

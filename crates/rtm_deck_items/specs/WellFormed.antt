@@ -4,14 +4,16 @@ use Rattle.std.specs.Option.{option_map_or}
 use Rattle.std.specs.List.{list_all, list_any}
 use Rattle.rtm_codes.specs.declared.code.Code.{Code}
 use Rattle.rtm_codes.specs.declared.code.Code.TheVariants.{Sys, User}
+use Rattle.rtm_cards.specs.Limits.{most_cards, most_programs, most_units, most_commands, most_entries, default_entries}
 use Rattle.rtm_deck_operands.specs.Name.{is_padded_name}
+use Rattle.rtm_deck_operands.specs.Value.{is_return_code}
 use Rattle.rtm_deck_items.specs.declared.deck.Line.{Line}
 use Rattle.rtm_deck_items.specs.declared.deck.Unit.{Unit as UnitCard}
 use Rattle.rtm_deck_items.specs.declared.deck.UnitKind.{UnitKind}
 use Rattle.rtm_deck_items.specs.declared.deck.UnitKind.TheVariants.{Task, Srb}
 use Rattle.rtm_deck_items.specs.declared.deck.Command.{Command}
 use Rattle.rtm_deck_items.specs.declared.op.Op.{Op}
-use Rattle.rtm_deck_items.specs.declared.op.Op.TheVariants.{Nop, Get, Free, Link, Xctl, Return, Abend, EstaexCt, EstaexOv, EstaexZero, FrrAdd, FrrDelete, FrrReplace, FrrPurge, Attachx, Detach, Abterm, Memterm, MgrAdd, MgrDelete, Schedule, Wait, WaitTask, Post, SetRp, Branch, IfCode, IfClup, IfPerc}
+use Rattle.rtm_deck_items.specs.declared.op.Op.TheVariants.{Nop, Get, Free, Link, Xctl, Return, Abend, EstaexCt, EstaexOv, EstaexZero, FrrAdd, FrrDelete, FrrReplace, FrrPurge, Attachx, Detach, Abterm, Memterm, MgrAdd, MgrDelete, Schedule, Wait, WaitTask, Post, SetRp, Ret15, Branch, IfCode, IfClup, IfPerc}
 use Rattle.rtm_deck_items.specs.declared.op.Setrp.{Setrp}
 use Rattle.rtm_deck_items.specs.View.{ProgramView, DeckView}
 use Rattle.rtm_deck_items.specs.Reading.{is_task_card, carries}
@@ -34,7 +36,7 @@ is_reason (Some n) = nat_lt n 4294967296
 -- SETRP's RC= is 0, 4 or 16
 abbrev pub is_setrp_rc : Option ℕ → Bool
 is_setrp_rc None = true
-is_setrp_rc (Some n) = n == 0 || n == 4 || n == 16
+is_setrp_rc (Some n) = is_return_code n
 
 abbrev pub is_setrp_code : Option Code → Bool
 is_setrp_code None = true
@@ -108,6 +110,7 @@ is_op d lines (Wait event) = nat_le event 255
 is_op d lines (WaitTask unit) = is_task_in d unit
 is_op d lines (Post event) = nat_le event 255
 is_op d lines (SetRp setrp) = is_setrp d setrp
+is_op d lines (Ret15 rc label) = is_return_code rc && is_retry_label d label
 is_op d lines (Branch label) = is_own_label lines label
 is_op d lines (IfCode code label) = is_code code && is_own_label lines label
 is_op d lines (IfClup label) = is_own_label lines label
@@ -142,13 +145,17 @@ is_related d Srb (Some unit) = is_task_in d unit
 abbrev pub is_unit_of : DeckView → UnitCard → Bool
 is_unit_of d unit = is_padded_name unit.name && is_program d unit.prog && is_related d unit.kind unit.related
 
--- a command cancels a task, once at most 100000 entries stand
+-- a command cancels a task, once so many entries stand
 abbrev pub is_command_of : DeckView → Command → Bool
-is_command_of d command = is_task_in d command.target && nat_le command.at 100000
+is_command_of d command = is_task_in d command.target && nat_le command.at most_entries
 
--- one more where the limit isn't the default, so that REGION stands there
-abbrev pub region_cards : ℕ → ℕ
-region_cards limit = if limit == 20000 then 0 else 1
+-- REGION has to stand there: the limit isn't the default, or routines get no SDWA
+abbrev pub has_region : ℕ → Bool → Bool
+has_region limit sdwa = not (limit == default_entries) || not sdwa
+
+-- one more where REGION has to stand there
+abbrev pub region_cards : ℕ → Bool → ℕ
+region_cards limit sdwa = if has_region limit sdwa then 1 else 0
 
 -- the cards of these programs, with PROG and PEND
 abbrev pub program_cards : List ProgramView → ℕ
@@ -162,11 +169,13 @@ command_cards (command ∷ commands) = 2 + length commands
 
 -- how many cards spell the deck at least: those of its programs with PROG and PEND, its units and commands, and END
 abbrev pub cards_needed : DeckView → ℕ
-cards_needed d = region_cards d.limit + program_cards d.programs + length d.units + command_cards d.commands + 1
+cards_needed d = region_cards d.limit d.sdwa + program_cards d.programs + length d.units + command_cards d.commands + 1
 
--- at most 256 programs with distinct names, 64 units with distinct names, 64 commands, 100000 entries and 10000 cards
+-- the numbers of entries, programs, units, commands and cards are within their limits
 abbrev pub keeps_limits : DeckView → Bool
-keeps_limits d = nat_le 1 d.limit && nat_le d.limit 100000 && nat_le (length d.programs) 256 && nat_le (length d.units) 64 && nat_le (length d.commands) 64 && nat_le (cards_needed d) 10000
+keeps_limits d =
+    nat_le 1 d.limit && nat_le d.limit most_entries && nat_le (length d.programs) most_programs && nat_le (length d.units) most_units
+    && nat_le (length d.commands) most_commands && nat_le (cards_needed d) most_cards
 
 -- the programs are distinct by their names, and the units are
 abbrev pub has_distinct_names : DeckView → Bool

@@ -1,13 +1,16 @@
 //! A deck: its programs, units and commands.
 
-ghost use Rattle.std.specs.Prelude.{◌≡◌, ◌+◌, ◌-◌, ◌≤◌, ◌<◌, ◌^◌, length, IfSome, IfOk, IsTrue, slice_get, position};
+ghost use Rattle.std.specs.Prelude.{◌≡◌, ℕ, ◌+◌, ◌≤◌, ◌<◌, ◌^◌, List, length, bytes_eq, IfSome, IfOk, IsTrue, slice_get, position};
 ghost use Rattle.std.specs.Option.{option_map};
-ghost use Rattle.rtm_deck_items.specs.Reading.{lines_in, op_in, carries, is_task_card};
+ghost use Rattle.std.specs.List.{position_from};
+ghost use Rattle.std.specs.HashMap.{get_by};
+ghost use Rattle.rtm_deck_items.specs.Reading.{lines_in, carries, is_task_card};
 
 use crate::op::Op;
 use rtm_codes::NoMemory;
 use rtm_deck_operands::Name;
 use std::alloc::Global;
+use std::collections::HashMap;
 use std::marker::Model;
 
 /// A card of a program, with the label that it carries.
@@ -22,14 +25,59 @@ pub struct Line {
 pub struct Program {
     pub name: Name,
     pub lines: Vec<Line>,
+    // The index of the first card that carries each label.
+    labels: HashMap<Name, usize>,
 }
 
 impl Model for Program {
+    ghost use Rattle.std.specs.Prelude.{◌≡◌, ℕ, List, bytes_eq};
+    ghost use Rattle.std.specs.List.{position_from};
+    ghost use Rattle.std.specs.HashMap.{get_by};
     ghost use Rattle.rtm_deck_items.specs.View.{ProgramView};
+    ghost use Rattle.rtm_deck_items.specs.Reading.{carries};
 
     ghost Value = { ProgramView };
 
     ghost view = { λ a. record { name = a.name; lines = a.lines.items } };
+
+    ghost invariant = { λ a. (label : List ℕ)
+        → get_by (bytes_eq label) a.labels ≡ position_from (carries label) 0 a.lines.items };
+}
+
+impl Program {
+    /// A program of these cards. The only error is want of memory.
+    pub fn new(alloc: Global, name: Name, lines: Vec<Line>) -> Result<Program, NoMemory>
+        ensures { IfOk result (λ program. program ≡ record { name = name; lines = lines.items }) }
+    {
+        let labels = labels_of(alloc, &lines)?;
+        Ok(Program {
+            name,
+            lines,
+            labels,
+        })
+    }
+
+    // The index of the first card that carries the label.
+    fn first_carrying(&self, label: &Name) -> Option<usize>
+        ensures value { result ≡ position (carries label.now) self.now.lines }
+        ensures bound { IfSome result (λ i. i < length self.now.lines) }
+    {
+        self.labels.get(label).copied()
+    }
+}
+
+// The index of the first card that carries each label: of those from behind, the last.
+fn labels_of(alloc: Global, lines: &[Line]) -> Result<HashMap<Name, usize>, NoMemory>
+    ensures { IfOk result (λ labels. (label : List ℕ)
+        → get_by (bytes_eq label) labels ≡ position_from (carries label) 0 lines.now) }
+{
+    let mut labels = HashMap::new(alloc);
+    for i in (0..lines.len()).rev() {
+        if let Some(label) = lines[i].label {
+            labels.insert(label, i)?;
+        }
+    }
+    Ok(labels)
 }
 
 /// What a unit of work is: a task, or a service request.
@@ -62,6 +110,8 @@ pub struct Command {
 pub struct Deck {
     /// How many entries a history may have, 1 to 100000.
     pub limit: u32,
+    /// Whether ESTAE and ESTAI routines are entered with an SDWA (this profile); FRRs always are.
+    pub sdwa: bool,
     pub programs: Vec<Program>,
     pub units: Vec<Unit>,
     pub commands: Vec<Command>,
@@ -75,6 +125,7 @@ impl Model for Deck {
 
     ghost view = { λ a. record {
       limit = a.limit;
+      sdwa = a.sdwa;
       programs = a.programs.items;
       units = a.units.items;
       commands = a.commands.items;
@@ -83,6 +134,7 @@ impl Model for Deck {
     // Some bytes spell it.
     ghost invariant = { λ a. IsSpelled (record {
       limit = a.limit;
+      sdwa = a.sdwa;
       programs = a.programs.items;
       units = a.units.items;
       commands = a.commands.items;
@@ -90,7 +142,7 @@ impl Model for Deck {
 }
 
 impl Deck {
-    ghost use Rattle.rtm_deck_items.specs.Reading.{lines_of, op_at, label_at, job_step, program_of};
+    ghost use Rattle.rtm_deck_items.specs.Reading.{lines_of, label_at, job_step, program_of};
     ghost use Rattle.rtm_deck_items.specs.Spelling.{IsSpelled};
     ghost use Rattle.rtm_deck_items.specs.WellFormed.{is_well_formed};
 
@@ -112,6 +164,7 @@ impl Deck {
         let commands = copied_commands(alloc, &self.commands)?;
         Ok(Deck {
             limit: self.limit,
+            sdwa: self.sdwa,
             programs,
             units,
             commands,
@@ -160,18 +213,11 @@ impl Deck {
         lines_at(&self.programs, prog)
     }
 
-    /// What stands at the operation `op`, from 1, of the program of that number; RETURN behind the last card.
-    pub fn op_at(&self, prog: u16, op: u16) -> Op
-        ensures { result ≡ op_at self.now prog op }
-    {
-        operation(self.lines_of(prog), op)
-    }
-
     /// The number, from 1, of the operation that carries the label in the program of that number, or none.
     pub fn label_at(&self, prog: u16, label: &Name) -> Option<u16>
         ensures { result ≡ label_at self.now prog label.now }
     {
-        position_of(self.lines_of(prog), label)
+        position_of(&self.programs, prog, label)
     }
 }
 
@@ -220,10 +266,7 @@ fn copied_program(alloc: Global, program: &Program) -> Result<Program, NoMemory>
     ensures { IfOk result (λ copy. copy ≡ program.now) }
 {
     let lines = copied_lines(alloc, &program.lines)?;
-    Ok(Program {
-        name: program.name,
-        lines,
-    })
+    Program::new(alloc, program.name, lines)
 }
 
 fn copied_programs(alloc: Global, programs: &[Program]) -> Result<Vec<Program>, NoMemory>
@@ -236,41 +279,25 @@ fn copied_programs(alloc: Global, programs: &[Program]) -> Result<Vec<Program>, 
     Ok(copies)
 }
 
-// What stands at the operation of that number.
-fn operation(lines: &[Line], op: u16) -> Op
-    ensures { result ≡ op_in (slice_get lines.now (op - 1)) }
+// The number of the first operation that carries the label in the program of that number.
+fn position_of(programs: &[Program], prog: u16, label: &Name) -> Option<u16>
+    requires { length (lines_in (slice_get programs.now prog)) ≤ 10000 }
+    ensures { result ≡ option_map (λ i. i + 1)
+        (position (carries label.now) (lines_in (slice_get programs.now prog))) }
 {
-    match lines.get((op as usize).saturating_sub(1)) {
-        None => Op::Return,
-        Some(line) => line.op,
-    }
-}
-
-// Whether the card carries the label.
-fn carries(line: &Line, label: &Name) -> bool
-    ensures { result ≡ carries label.now line.now }
-{
-    match line.label {
-        None => false,
-        Some(own) => own.0 == label.0,
-    }
-}
-
-// The index of the first card that carries the label.
-fn first_carrying(lines: &[Line], label: &Name) -> Option<usize>
-    ensures value { result ≡ position (carries label.now) lines.now }
-    ensures bound { IfSome result (λ i. i < length lines.now) }
-{
-    lines.iter().position(|line| carries(line, label))
-}
-
-// The number of the first operation that carries the label.
-fn position_of(lines: &[Line], label: &Name) -> Option<u16>
-    requires { length lines.now ≤ 10000 }
-    ensures { result ≡ option_map (λ i. i + 1) (position (carries label.now) lines.now) }
-{
-    match first_carrying(lines, label) {
+    match first_at(programs, prog, label) {
         None => None,
         Some(found) => Some(found as u16 + 1),
+    }
+}
+
+// The index of the first card that carries the label in the program of that number.
+fn first_at(programs: &[Program], prog: u16, label: &Name) -> Option<usize>
+    ensures value { result ≡ position (carries label.now) (lines_in (slice_get programs.now prog)) }
+    ensures bound { IfSome result (λ i. i < length (lines_in (slice_get programs.now prog))) }
+{
+    match programs.get(prog as usize) {
+        None => None,
+        Some(program) => program.first_carrying(label),
     }
 }

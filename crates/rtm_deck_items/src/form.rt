@@ -45,6 +45,7 @@ pub enum CardForm {
     WaitTask,
     Post,
     SetRp,
+    Ret15,
     Branch,
     IfCode,
     IfClup,

@@ -106,6 +106,11 @@ pub enum Op {
         event: u8,
     },
     SetRp(Setrp),
+    /// What a routine without an SDWA leaves in register 15: the return code 0, 4 or 16, and where a retry goes.
+    Ret15 {
+        rc: u8,
+        label: Option<Name>,
+    },
     Branch {
         label: Name,
     },

@@ -4,34 +4,42 @@ ghost use Rattle.std.specs.Prelude.{◌≡◌};
 ghost use Rattle.rtm_deck_items.specs.Forms.{all_forms, operation_of, slots_of, needs_some, name_field, is_inside};
 
 use crate::form::{CardForm, NameField};
-use rtm_deck_operands::{Kind, LeftOut, Slot};
+use rtm_cards::{DEFAULT_ENTRIES, MOST_ENTRIES};
+use rtm_deck_operands::{Kind, LeftOut, NameOf, Slot};
 
 static NONE: [Slot; 0] = [];
 
-static REGION: [Slot; 1] = [Slot {
-    key: *b"LIMIT   ",
-    kind: Kind::Number {
-        least: 1,
-        most: 100_000,
+static REGION: [Slot; 2] = [
+    Slot {
+        key: *b"LIMIT   ",
+        kind: Kind::Number {
+            least: 1,
+            most: MOST_ENTRIES,
+        },
+        left_out: LeftOut::Number(DEFAULT_ENTRIES),
     },
-    left_out: LeftOut::Needed,
-}];
+    Slot {
+        key: *b"SDWA    ",
+        kind: Kind::YesNo,
+        left_out: LeftOut::Flag(true),
+    },
+];
 
 static TASK: [Slot; 1] = [Slot {
     key: *b"PGM     ",
-    kind: Kind::Name,
+    kind: Kind::Name(NameOf::Program),
     left_out: LeftOut::Needed,
 }];
 
 static SRB: [Slot; 2] = [
     Slot {
         key: *b"PGM     ",
-        kind: Kind::Name,
+        kind: Kind::Name(NameOf::Program),
         left_out: LeftOut::Needed,
     },
     Slot {
         key: *b"TASK    ",
-        kind: Kind::Name,
+        kind: Kind::Name(NameOf::Task),
         left_out: LeftOut::Nothing,
     },
 ];
@@ -39,14 +47,14 @@ static SRB: [Slot; 2] = [
 static CANCEL: [Slot; 3] = [
     Slot {
         key: *b"        ",
-        kind: Kind::Name,
+        kind: Kind::Name(NameOf::Task),
         left_out: LeftOut::Needed,
     },
     Slot {
         key: *b"AT      ",
         kind: Kind::Number {
             least: 0,
-            most: 100_000,
+            most: MOST_ENTRIES,
         },
         left_out: LeftOut::Number(0),
     },
@@ -73,9 +81,27 @@ static GET: [Slot; 2] = [
     },
 ];
 
-static LINK: [Slot; 1] = [Slot {
+static A_PROGRAM: [Slot; 1] = [Slot {
     key: *b"        ",
-    kind: Kind::Name,
+    kind: Kind::Name(NameOf::Program),
+    left_out: LeftOut::Needed,
+}];
+
+static A_TASK: [Slot; 1] = [Slot {
+    key: *b"        ",
+    kind: Kind::Name(NameOf::Task),
+    left_out: LeftOut::Needed,
+}];
+
+static AN_SRB: [Slot; 1] = [Slot {
+    key: *b"        ",
+    kind: Kind::Name(NameOf::Srb),
+    left_out: LeftOut::Needed,
+}];
+
+static A_LABEL: [Slot; 1] = [Slot {
+    key: *b"        ",
+    kind: Kind::Name(NameOf::OwnLabel),
     left_out: LeftOut::Needed,
 }];
 
@@ -110,7 +136,7 @@ static ESTAEX_CT: [Slot; 5] = [
     },
     Slot {
         key: *b"PGM     ",
-        kind: Kind::Name,
+        kind: Kind::Name(NameOf::Program),
         left_out: LeftOut::Needed,
     },
     Slot {
@@ -138,7 +164,7 @@ static ESTAEX_OV: [Slot; 5] = [
     },
     Slot {
         key: *b"PGM     ",
-        kind: Kind::Name,
+        kind: Kind::Name(NameOf::Program),
         left_out: LeftOut::Needed,
     },
     Slot {
@@ -172,7 +198,7 @@ static FRR_ADD: [Slot; 2] = [
     },
     Slot {
         key: *b"PGM     ",
-        kind: Kind::Name,
+        kind: Kind::Name(NameOf::Program),
         left_out: LeftOut::Needed,
     },
 ];
@@ -191,7 +217,7 @@ static FRR_REPLACE: [Slot; 2] = [
     },
     Slot {
         key: *b"PGM     ",
-        kind: Kind::Name,
+        kind: Kind::Name(NameOf::Program),
         left_out: LeftOut::Needed,
     },
 ];
@@ -205,12 +231,12 @@ static FRR_PURGE: [Slot; 1] = [Slot {
 static ATTACHX_ESTAI: [Slot; 3] = [
     Slot {
         key: *b"        ",
-        kind: Kind::Name,
+        kind: Kind::Name(NameOf::Task),
         left_out: LeftOut::Needed,
     },
     Slot {
         key: *b"ESTAI   ",
-        kind: Kind::Name,
+        kind: Kind::Name(NameOf::Program),
         left_out: LeftOut::Needed,
     },
     Slot {
@@ -223,7 +249,7 @@ static ATTACHX_ESTAI: [Slot; 3] = [
 static DETACH: [Slot; 2] = [
     Slot {
         key: *b"        ",
-        kind: Kind::Name,
+        kind: Kind::Name(NameOf::Task),
         left_out: LeftOut::Needed,
     },
     Slot {
@@ -241,7 +267,7 @@ static ABTERM: [Slot; 6] = [
     },
     Slot {
         key: *b"TASK    ",
-        kind: Kind::Name,
+        kind: Kind::Name(NameOf::Task),
         left_out: LeftOut::Needed,
     },
     Slot {
@@ -287,7 +313,7 @@ static MGR_ADD: [Slot; 3] = [
     },
     Slot {
         key: *b"PGM     ",
-        kind: Kind::Name,
+        kind: Kind::Name(NameOf::Program),
         left_out: LeftOut::Needed,
     },
     Slot {
@@ -305,7 +331,7 @@ static MGR_DELETE: [Slot; 3] = [
     },
     Slot {
         key: *b"PGM     ",
-        kind: Kind::Name,
+        kind: Kind::Name(NameOf::Program),
         left_out: LeftOut::Needed,
     },
     Slot {
@@ -332,7 +358,7 @@ static SET_RP: [Slot; 8] = [
     },
     Slot {
         key: *b"RETADDR ",
-        kind: Kind::Name,
+        kind: Kind::Name(NameOf::AnyLabel),
         left_out: LeftOut::Nothing,
     },
     Slot {
@@ -367,6 +393,19 @@ static SET_RP: [Slot; 8] = [
     },
 ];
 
+static RET15: [Slot; 2] = [
+    Slot {
+        key: *b"        ",
+        kind: Kind::ReturnCode,
+        left_out: LeftOut::Needed,
+    },
+    Slot {
+        key: *b"RETADDR ",
+        kind: Kind::Name(NameOf::AnyLabel),
+        left_out: LeftOut::Nothing,
+    },
+];
+
 static IF_CODE: [Slot; 2] = [
     Slot {
         key: *b"        ",
@@ -375,12 +414,12 @@ static IF_CODE: [Slot; 2] = [
     },
     Slot {
         key: *b"        ",
-        kind: Kind::Name,
+        kind: Kind::Name(NameOf::OwnLabel),
         left_out: LeftOut::Needed,
     },
 ];
 
-static ALL_FORMS: [CardForm; 38] = [
+static ALL_FORMS: [CardForm; 39] = [
     CardForm::Region,
     CardForm::Prog,
     CardForm::Pend,
@@ -415,6 +454,7 @@ static ALL_FORMS: [CardForm; 38] = [
     CardForm::WaitTask,
     CardForm::Post,
     CardForm::SetRp,
+    CardForm::Ret15,
     CardForm::Branch,
     CardForm::IfCode,
     CardForm::IfClup,
@@ -468,6 +508,7 @@ impl CardForm {
             CardForm::WaitTask => b"WAITT",
             CardForm::Post => b"POST",
             CardForm::SetRp => b"SETRP",
+            CardForm::Ret15 => b"RET15",
             CardForm::Branch => b"B",
             CardForm::IfCode => b"IFCODE",
             CardForm::IfClup => b"IFCLUP",
@@ -491,8 +532,8 @@ impl CardForm {
             CardForm::Nop => &NONE,
             CardForm::Get => &GET,
             CardForm::Free => &GET,
-            CardForm::Link => &LINK,
-            CardForm::Xctl => &LINK,
+            CardForm::Link => &A_PROGRAM,
+            CardForm::Xctl => &A_PROGRAM,
             CardForm::Return => &NONE,
             CardForm::Abend => &ABEND,
             CardForm::EstaexCt => &ESTAEX_CT,
@@ -502,22 +543,23 @@ impl CardForm {
             CardForm::FrrDelete => &FRR_DELETE,
             CardForm::FrrReplace => &FRR_REPLACE,
             CardForm::FrrPurge => &FRR_PURGE,
-            CardForm::Attachx => &LINK,
+            CardForm::Attachx => &A_TASK,
             CardForm::AttachxEstai => &ATTACHX_ESTAI,
             CardForm::Detach => &DETACH,
             CardForm::Abterm => &ABTERM,
             CardForm::Memterm => &MEMTERM,
             CardForm::MgrAdd => &MGR_ADD,
             CardForm::MgrDelete => &MGR_DELETE,
-            CardForm::Schedule => &LINK,
+            CardForm::Schedule => &AN_SRB,
             CardForm::Wait => &WAIT,
-            CardForm::WaitTask => &LINK,
+            CardForm::WaitTask => &A_TASK,
             CardForm::Post => &WAIT,
             CardForm::SetRp => &SET_RP,
-            CardForm::Branch => &LINK,
+            CardForm::Ret15 => &RET15,
+            CardForm::Branch => &A_LABEL,
             CardForm::IfCode => &IF_CODE,
-            CardForm::IfClup => &LINK,
-            CardForm::IfPerc => &LINK,
+            CardForm::IfClup => &A_LABEL,
+            CardForm::IfPerc => &A_LABEL,
         }
     }
 }

@@ -3,6 +3,7 @@ use Rattle.std.proofs.Common.{◌≡◌, ℕ, ◌≤◌, refl, sym, subst, List,
 use Rattle.std.specs.Prelude.{IsTrue, bytes_eq}
 use Rattle.std.specs.List.{list_all}
 use Rattle.std.proofs.lemmas.Bool.{leb-true}
+use Rattle.rtm_cards.specs.Limits.{most_card_bytes}
 use Rattle.rtm_deck_operands.specs.Numeral.{decimal_of}
 use Rattle.rtm_deck_items.specs.Items.{Item}
 use Rattle.rtm_deck_items.specs.Spelling.{DeckText}
@@ -22,7 +23,7 @@ well_formed n least most = each_number (λ (k : ℕ). is_well_formed (load_deck 
 short : (n : ℕ) → 1 ≤ n → n ≤ 60 → AreShort (load_deck n)
 unfolding decimal_of one_to load_deck
 short n least most =
-    each_tested (is_short (load_deck n)) (λ (item : Item). length (item_line (load_deck n) item) ≤ 80) (λ item t. leb-true _ 80 t) (canon_items (load_deck n))
+    each_tested (is_short (load_deck n)) (λ (item : Item). length (item_line (load_deck n) item) ≤ most_card_bytes) (λ item t. leb-true _ most_card_bytes t) (canon_items (load_deck n))
     (each_number (λ (k : ℕ). list_all (is_short (load_deck k)) (canon_items (load_deck k))) 1 60 n least (omega arith) refl)
 
 canonical : (n : ℕ) → 1 ≤ n → n ≤ 60 → load_text n ≡ canon (load_deck n)

@@ -109,4 +109,4 @@ load_units n = task (codes "JOB     ") 0 ∷ map worker (one_to n)
 
 -- the deck of that many tasks beside the job step task
 unfoldable pub load_deck : ℕ → DeckView
-load_deck n = record { limit = 100000; programs = load_programs n; units = load_units n; commands = [] }
+load_deck n = record { limit = 100000; sdwa = true; programs = load_programs n; units = load_units n; commands = [] }

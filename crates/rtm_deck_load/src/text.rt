@@ -3,11 +3,11 @@
 ghost use Rattle.std.specs.Prelude.{◌≡◌, ◌<◌, ◌≤◌, [], ◌∷◌, ◌++◌, codes, map, IfOk, OnOk};
 ghost use Rattle.std.specs.List.{flat_map};
 ghost use Rattle.rtm_cards.specs.Spelling.{line_with_feed};
-ghost use Rattle.rtm_deck_operands.specs.Numeral.{decimal_of};
 ghost use Rattle.rtm_deck_load.specs.Counts.{one_to};
 ghost use Rattle.rtm_deck_load.specs.Text.{empty_cards, keep_cards, load_text, main_cards, numbered_card, round_cards, sub_cards, unit_cards, work_cards};
 
 use rtm_codes::NoMemory;
+use rtm_text::{push_bytes, push_decimal};
 use std::alloc::Global;
 
 // How many recovery routines each task makes.
@@ -34,7 +34,8 @@ pub(crate) fn load_text(alloc: Global, tasks: u8) -> Result<Vec<u8>, NoMemory>
 // MAIN, which attaches each task and waits for each.
 fn push_main(out: &mut Vec<u8>, tasks: u8) -> Result<(), NoMemory>
     requires { tasks ≤ 60 }
-    ensures { OnOk result (out.new.items ≡ out.old.items ++ flat_map line_with_feed (main_cards tasks)) }
+    ensures { OnOk result
+        (out.new.items ≡ out.old.items ++ flat_map line_with_feed (main_cards tasks)) }
 {
     push_card(out, b"MAIN PROG")?;
     push_card(out, b" GET ENQ,0")?;
@@ -57,7 +58,8 @@ fn push_work(out: &mut Vec<u8>) -> Result<(), NoMemory>
 // The rounds of WORK: each makes a recovery routine and calls SUB, which ends abnormally.
 fn push_rounds(out: &mut Vec<u8>, rounds: u8) -> Result<(), NoMemory>
     requires { rounds ≤ 60 }
-    ensures { OnOk result (out.new.items ≡ out.old.items ++ flat_map line_with_feed (flat_map round_cards (one_to rounds))) }
+    ensures { OnOk result
+        (out.new.items ≡ out.old.items ++ flat_map line_with_feed (flat_map round_cards (one_to rounds))) }
 {
     for done in 0..rounds {
         push_round(out, done + 1)?;
@@ -67,7 +69,8 @@ fn push_rounds(out: &mut Vec<u8>, rounds: u8) -> Result<(), NoMemory>
 
 fn push_round(out: &mut Vec<u8>, round: u8) -> Result<(), NoMemory>
     requires { round ≤ 60 }
-    ensures { OnOk result (out.new.items ≡ out.old.items ++ flat_map line_with_feed (round_cards round)) }
+    ensures { OnOk result
+        (out.new.items ≡ out.old.items ++ flat_map line_with_feed (round_cards round)) }
 {
     push_numbered_card(out, b" ESTAEX CT,PGM=KEEP", b"", round)?;
     push_card(out, b" LINK SUB")?;
@@ -88,7 +91,8 @@ fn push_sub(out: &mut Vec<u8>) -> Result<(), NoMemory>
 // The recovery routines that retry.
 fn push_routines(out: &mut Vec<u8>, routines: u8) -> Result<(), NoMemory>
     requires { routines ≤ 60 }
-    ensures { OnOk result (out.new.items ≡ out.old.items ++ flat_map line_with_feed (flat_map keep_cards (one_to routines))) }
+    ensures { OnOk result
+        (out.new.items ≡ out.old.items ++ flat_map line_with_feed (flat_map keep_cards (one_to routines))) }
 {
     for done in 0..routines {
         push_routine(out, done + 1)?;
@@ -98,7 +102,8 @@ fn push_routines(out: &mut Vec<u8>, routines: u8) -> Result<(), NoMemory>
 
 fn push_routine(out: &mut Vec<u8>, routine: u8) -> Result<(), NoMemory>
     requires { routine ≤ 60 }
-    ensures { OnOk result (out.new.items ≡ out.old.items ++ flat_map line_with_feed (keep_cards routine)) }
+    ensures { OnOk result
+        (out.new.items ≡ out.old.items ++ flat_map line_with_feed (keep_cards routine)) }
 {
     push_numbered_card(out, b"KEEP", b" PROG", routine)?;
     push_numbered_card(out, b" SETRP RC=4,RETADDR=BACK", b",REMREC=YES", routine)?;
@@ -117,7 +122,8 @@ fn push_empty_programs(out: &mut Vec<u8>) -> Result<(), NoMemory>
 
 fn push_units(out: &mut Vec<u8>, tasks: u8) -> Result<(), NoMemory>
     requires { tasks ≤ 60 }
-    ensures { OnOk result (out.new.items ≡ out.old.items ++ flat_map line_with_feed (unit_cards tasks)) }
+    ensures { OnOk result
+        (out.new.items ≡ out.old.items ++ flat_map line_with_feed (unit_cards tasks)) }
 {
     push_card(out, b"JOB TASK PGM=MAIN")?;
     push_numbered_cards(out, b"T", b" TASK PGM=WORK", tasks)
@@ -148,29 +154,17 @@ fn push_numbered_card(
     number: u8,
 ) -> Result<(), NoMemory>
     requires { number ≤ 60 }
-    ensures { OnOk result (out.new.items ≡ out.old.items ++ line_with_feed (numbered_card front.now back.now number)) }
+    ensures { OnOk result
+        (out.new.items ≡ out.old.items ++ line_with_feed (numbered_card front.now back.now number)) }
 {
-    out.extend_from_slice(front)?;
-    push_decimal(out, number)?;
+    push_bytes(out, front)?;
+    push_decimal(out, u64::from(number))?;
     push_card(out, back)
 }
 
 fn push_card(out: &mut Vec<u8>, card: &[u8]) -> Result<(), NoMemory>
     ensures { OnOk result (out.new.items ≡ out.old.items ++ line_with_feed card.now) }
 {
-    out.extend_from_slice(card)?;
-    out.push(b'\n')?;
-    Ok(())
-}
-
-// A number of one or two digits.
-fn push_decimal(out: &mut Vec<u8>, number: u8) -> Result<(), NoMemory>
-    requires { number < 100 }
-    ensures { OnOk result (out.new.items ≡ out.old.items ++ decimal_of number) }
-{
-    if number >= 10 {
-        out.push(b'0' + number / 10)?;
-    }
-    out.push(b'0' + number % 10)?;
-    Ok(())
+    push_bytes(out, card)?;
+    push_bytes(out, b"\n")
 }

@@ -29,7 +29,8 @@ use Rattle.rtm_deck_operands.specs.Value.{yes_or_no, three_text, class_text, sco
 use Rattle.rtm_deck_operands.specs.Slot.{operand_text, SpellsOperand, LeftOutMeans, StandsBehind, Stands, SpellsSlots, is_flag, is_number, is_default, canon_operand, canon_operands, separated_operands, field_of, means_nothing, slot_fits, slots_fit, is_operand_byte, is_operand_text, is_key_byte, kind_is_well_made, default_fits, slot_is_well_made}
 use Rattle.rtm_deck_operands.proofs.Names.{both, padded_parts, trimmed_text-padded_text, name_parts, length-name}
 use Rattle.rtm_deck_operands.proofs.ValueTexts.{not_S000}
-use Rattle.rtm_deck_operands.proofs.Numerals.{numeral-spells, numeral-some, numeral-few, numeral-shortest, numeral-plain}
+use Rattle.rtm_text.proofs.NumeralLaws.{numeral-spells, numeral-some, numeral-few, numeral-shortest}
+use Rattle.rtm_deck_operands.proofs.Numerals.{numeral-plain}
 
 -- Numbers.
 
@@ -94,7 +95,7 @@ Spells-value_text (kinds.Number least most) (values.Number n) made e =
     let top = below_limit most 4294967295 made in
     (decimal_spells n (omega arith), low, high)
 Spells-value_text kinds.ReturnCode (values.Number n) made e = (decimal_spells n (return_code_small n e), e)
-Spells-value_text kinds.Name (values.Name bytes) made e = let p = padded_parts bytes e in (p.name, p.whole)
+Spells-value_text (kinds.Name named) (values.Name bytes) made e = let p = padded_parts bytes e in (p.name, p.whole)
 Spells-value_text kinds.Code (values.Code code) made e = Spells-short_of code (code_range code e)
 Spells-value_text kinds.AbendCode (values.Code code) made e = (Spells-short_of code (abend_range code e), not_S000 code e)
 Spells-value_text kinds.Reason (values.Reason n) made e = hexadecimal_spells n (below_limit n 4294967295 e)
@@ -109,7 +110,7 @@ pub value_text-shortest : (kind : Kind) (text : List ℕ) (value : Value) → Sp
 value_text-shortest (kinds.Word word) text values.Word s = rw s (omega arith)
 value_text-shortest (kinds.Number least most) text (values.Number n) s = decimal_shortest n text s.0
 value_text-shortest kinds.ReturnCode text (values.Number n) s = decimal_shortest n text s.0
-value_text-shortest kinds.Name text (values.Name bytes) s =
+value_text-shortest (kinds.Name named) text (values.Name bytes) s =
     let same : trimmed_text bytes ≡ text = ap trimmed_text s.1 ∙ trimmed_text-padded_text text s.0 in
     omega (arith, ap length same)
 value_text-shortest kinds.Code text (values.Code code) s = short_of-shortest text code s
@@ -176,7 +177,7 @@ value_is_plain : (kind : Kind) (value : Value) → kind_is_well_made kind ≡ tr
 value_is_plain (kinds.Word word) values.Word made e = made
 value_is_plain (kinds.Number least most) (values.Number n) made e = decimal_plain n
 value_is_plain kinds.ReturnCode (values.Number n) made e = decimal_plain n
-value_is_plain kinds.Name (values.Name bytes) made e = let p = padded_parts bytes e in name_is_plain (trimmed_text bytes) p.name
+value_is_plain (kinds.Name named) (values.Name bytes) made e = let p = padded_parts bytes e in name_is_plain (trimmed_text bytes) p.name
 value_is_plain kinds.Code (values.Code code) made e = code_is_plain code (code_range code e)
 value_is_plain kinds.AbendCode (values.Code code) made e = code_is_plain code (abend_range code e)
 value_is_plain kinds.Reason (values.Reason n) made e = hexadecimal_plain n

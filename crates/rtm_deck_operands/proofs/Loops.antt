@@ -16,12 +16,6 @@ use Rattle.rtm_deck_operands.specs.declared.value.Value.{Value}
 use Rattle.rtm_deck_operands.specs.Part.{span_of, part_texts, AreWithin}
 use Rattle.rtm_deck_operands.specs.Reading.{taken_value, operand_in, place_of, take_operand}
 
--- digits before another one leave room for it
-pub room : (n i : ℕ) → n < 16 ^ i → i < 10 → n * 16 + 15 < 18446744073709551616
-room n i h few =
-    let le : 16 ^ i ≤ 16 ^ 9 = pow-le-pow_right {n = 16} (omega arith) {i = i} {j = 9} (omega arith) in
-    omega arith
-
 -- what holds of each element holds of the one at an index
 pub all_at : {X : Type 0} (P : X → Type 0) (xs : List X) (i : ℕ) (d : X) → AllByRecursion P xs → i < length xs → P (get_or xs i d)
 all_at P [] i d all h = absurd (omega arith)

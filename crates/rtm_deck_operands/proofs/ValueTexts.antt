@@ -13,8 +13,9 @@ use Rattle.rtm_codes.specs.Code.{SpellsNumber, in_range, same_code}
 use Rattle.rtm_codes.specs.Code.{Spells as SpellsCode}
 use Rattle.rtm_codes.specs.Reading.{number_after, code_in}
 use Rattle.rtm_codes.proofs.Codes.{same_code-true, same_code-refl}
-use Rattle.rtm_codes.proofs.Digits.{number_after-spelled, number_after-Some}
-use Rattle.rtm_codes.proofs.Spellings.{code_in-spelled, Spells-code_in, Spells-in_range, SpellsNumber-lt}
+use Rattle.rtm_text.proofs.DigitLaws.{number_after-spelled, number_after-Some}
+use Rattle.rtm_codes.proofs.Spellings.{code_in-spelled, Spells-code_in, Spells-in_range}
+use Rattle.rtm_text.proofs.DigitLaws.{SpellsNumber-lt}
 use Rattle.rtm_deck_operands.specs.declared.value.Value.{Value}
 use Rattle.rtm_deck_operands.specs.declared.value.Value.TheVariants as values
 use Rattle.rtm_deck_operands.specs.declared.value.Three.{Three}
@@ -201,7 +202,7 @@ value_in-spelled kinds.ReturnCode text (values.Number n) s =
     let top = return_code_le n s.1 in
     let read = number_in-spelled 10 10 0 4294967295 text n (omega arith) (record { some = s.0.0; few = s.0.1; digits = s.0.2; least_le = omega arith; le_most = omega arith }) in
     rw (read, s.1) refl
-value_in-spelled kinds.Name text (values.Name bytes) s = rw (s.0, s.1) refl
+value_in-spelled (kinds.Name named) text (values.Name bytes) s = rw (s.0, s.1) refl
 value_in-spelled kinds.Code text (values.Code code) s = rw (code_in-spelled text code s) refl
 value_in-spelled kinds.AbendCode text (values.Code code) s =
     rw (code_in-spelled text code s.0, is_abend_code-spelled text code s.0 s.1) refl
@@ -243,8 +244,8 @@ Spells-value_in kinds.ReturnCode text value e =
     let p = value_if-Some is_return_code found n passes in
     let r = subst (λ (k : ℕ). IsNumber 10 10 0 4294967295 text k) p.1 (number_in-Some 10 10 0 4294967295 text found there) in
     ((r.some, r.few, r.digits), p.0)))
-Spells-value_in kinds.Name text value e =
-    mapped values.Name (name_in text) value (Spells kinds.Name text) e (λ bytes is. name_spelled text bytes is)
+Spells-value_in (kinds.Name named) text value e =
+    mapped values.Name (name_in text) value (Spells (kinds.Name named) text) e (λ bytes is. name_spelled text bytes is)
 Spells-value_in kinds.Code text value e =
     mapped values.Code (code_in text) value (Spells kinds.Code text) e (λ code is. Spells-code_in text code is)
 Spells-value_in kinds.AbendCode text value e =
@@ -271,7 +272,7 @@ pub fits-spelled : (kind : Kind) (text : List ℕ) (value : Value) → Spells ki
 fits-spelled (kinds.Word word) text values.Word s = refl
 fits-spelled (kinds.Number least most) text (values.Number n) s = rw (le-leb least n s.1, le-leb n most s.2) refl
 fits-spelled kinds.ReturnCode text (values.Number n) s = s.1
-fits-spelled kinds.Name text (values.Name bytes) s = rw s.1 (is_padded-padded_text text s.0)
+fits-spelled (kinds.Name named) text (values.Name bytes) s = rw s.1 (is_padded-padded_text text s.0)
 fits-spelled kinds.Code text (values.Code code) s = le-leb _ 4095 (Spells-in_range text code s)
 fits-spelled kinds.AbendCode text (values.Code code) s = is_abend_code-spelled text code s.0 s.1
 fits-spelled kinds.Reason text (values.Reason n) s = le-leb n 4294967295 (reason_le text n s.1 s.2)

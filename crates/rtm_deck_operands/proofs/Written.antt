@@ -2,10 +2,8 @@
 use Rattle.std.proofs.Common.{◌≡◌, ℕ, zero, suc, ◌+◌, ◌-◌, ◌/◌, ◌%◌, ◌<◌, ◌≤◌, Bool, true, false, cond, eqb, ltb, List, [], ◌∷◌, ◌++◌, append_assoc, length, get_or, take, drop, Option, Some, None, refl, ap, sym, ◌∙◌, add-one, arith}
 use Rattle.std.proofs.Math.Seq.{drop-cons}
 use Rattle.std.proofs.lemmas.List.Sums.{take_while-cons}
-use Rattle.std.proofs.lemmas.Bool.{ne_eqb, lt-ltb, le-ltb}
-use Rattle.rtm_codes.specs.Code.{digit_char}
+use Rattle.std.proofs.lemmas.Bool.{ne_eqb}
 use Rattle.rtm_deck_operands.specs.Name.{trimmed_text}
-use Rattle.rtm_deck_operands.specs.Numeral.{numeral}
 use Rattle.rtm_deck_operands.specs.Slot.{separated_operands, separator_after}
 
 -- from a blank on nothing is kept, and else the byte and what is kept behind it
@@ -23,20 +21,6 @@ pub trimmed_text-more : (bytes out more start : List ℕ) (i : ℕ) → i < leng
 trimmed_text-more bytes out more start i h other before is =
     let kept : trimmed_text (drop i bytes) ≡ get_or bytes i 0 ∷ trimmed_text (drop (i + 1) bytes) = rw (trimmed_text-drop bytes i h) (rw (ne_eqb _ _ other) refl) in
     rw is (rw (append_assoc out (get_or bytes i 0 ∷ []) (trimmed_text (drop (i + 1) bytes))) (rw (sym kept) before))
-
--- the digits before the last one, where there are some
-pub numeral_more : (base others number : ℕ) → 0 < others → base ≤ number →
-    numeral base others number ≡ numeral base (others - 1) (number / base) ++ digit_char (number % base) ∷ []
-numeral_more base zero number some big = absurd (omega arith)
-numeral_more base (suc others) number some big =
-    let one_less : suc others - 1 ≡ others = omega arith in
-    rw (le-ltb number base big, one_less) refl
-
--- the last digit alone
-pub numeral_last : (base others number : ℕ) → (0 < others → number < base) → numeral base others number ≡ digit_char (number % base) ∷ []
-numeral_last base zero number small = refl
-numeral_last base (suc others) number small =
-    let less = small (omega arith) in rw (lt-ltb number base less) refl
 
 -- operands in a row, behind others
 pub separated_operands-append : (separator : ℕ) (xs ys : List (List ℕ)) → separated_operands separator (xs ++ ys) ≡ separated_operands separator xs ++ separated_operands (separator_after separator xs) ys

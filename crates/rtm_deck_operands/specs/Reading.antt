@@ -62,7 +62,7 @@ value_in (kinds.Word word) text = if bytes_eq text (trimmed_text word) then Some
 value_in (kinds.Number least most) text = option_map values.Number (number_in 10 10 least most text)
 value_in kinds.ReturnCode text =
     option_map values.Number (option_and_then (value_if is_return_code) (number_in 10 10 0 4294967295 text))
-value_in kinds.Name text = option_map values.Name (name_in text)
+value_in (kinds.Name named) text = option_map values.Name (name_in text)
 value_in kinds.Code text = option_map values.Code (code_in text)
 value_in kinds.AbendCode text = option_map values.Code (option_and_then (value_if is_abend_code) (code_in text))
 value_in kinds.Reason text = option_map values.Reason (number_in 16 8 0 4294967295 text)

@@ -59,7 +59,7 @@ abbrev pub Spells : Kind → List ℕ → Value → Type 0
 Spells (kinds.Word word) text values.Word = text ≡ trimmed_text word
 Spells (kinds.Number least most) text (values.Number n) = SpellsDecimal text n × (least ≤ n) × (n ≤ most)
 Spells kinds.ReturnCode text (values.Number n) = SpellsDecimal text n × (is_return_code n ≡ true)
-Spells kinds.Name text (values.Name bytes) = SpellsName text bytes
+Spells (kinds.Name named) text (values.Name bytes) = SpellsName text bytes
 Spells kinds.Code text (values.Code code) = SpellsCode text code
 Spells kinds.AbendCode text (values.Code code) = SpellsCode text code × (code ≢ Sys 0)
 Spells kinds.Reason text (values.Reason n) = SpellsReason text n
@@ -74,7 +74,7 @@ abbrev pub fits : Kind → Value → Bool
 fits (kinds.Word word) values.Word = true
 fits (kinds.Number least most) (values.Number n) = nat_le least n && nat_le n most
 fits kinds.ReturnCode (values.Number n) = is_return_code n
-fits kinds.Name (values.Name bytes) = is_padded_name bytes
+fits (kinds.Name named) (values.Name bytes) = is_padded_name bytes
 fits kinds.Code (values.Code code) = in_range code
 fits kinds.AbendCode (values.Code code) = is_abend_code code
 fits kinds.Reason (values.Reason n) = nat_le n 4294967295
@@ -118,7 +118,7 @@ abbrev pub value_text : Kind → Value → List ℕ
 value_text (kinds.Word word) value = trimmed_text word
 value_text (kinds.Number least most) value = number_text value
 value_text kinds.ReturnCode value = number_text value
-value_text kinds.Name value = name_text value
+value_text (kinds.Name named) value = name_text value
 value_text kinds.Code value = code_text value
 value_text kinds.AbendCode value = code_text value
 value_text kinds.Reason value = reason_text value

@@ -9,6 +9,7 @@ mod name;
 mod part;
 mod read;
 mod read_value;
+mod send;
 mod slot;
 mod value;
 mod write;
@@ -16,7 +17,8 @@ mod write_value;
 
 pub use name::{Name, name_of};
 pub use read::{Values, read_operands};
-pub use slot::{Kind, LeftOut, MOST_SLOTS, Slot};
+pub use send::types_are_send;
+pub use slot::{Kind, LeftOut, MOST_SLOTS, NameOf, Slot};
 pub use value::{Res, Three, Value};
 pub use write::push_operands;
 pub use write_value::push_name;

@@ -1,7 +1,6 @@
 //! Reading the text of a value.
 
-ghost use Rattle.std.specs.Prelude.{◌≡◌, ◌≤◌, ◌<◌, ◌^◌, Some, None, IfSome, length, option_map, bytes_eq};
-ghost use Rattle.rtm_codes.specs.Reading.{digit_in, number_after};
+ghost use Rattle.std.specs.Prelude.{◌≡◌, ◌≤◌};
 ghost use Rattle.rtm_codes.specs.declared.code.Code.{Code};
 ghost use Rattle.rtm_codes.specs.Code.{same_code};
 ghost use Rattle.rtm_deck_operands.specs.Value.{yes_or_no, scope_text, is_return_code, is_abend_code};
@@ -11,6 +10,7 @@ use crate::name::{name_of, trimmed_text};
 use crate::slot::Kind;
 use crate::value::{Res, Three, Value};
 use rtm_codes::{Code, is_in_range, read_code};
+use rtm_text::number_in;
 
 // How many digits a number has at most.
 const MOST_DIGITS: usize = 10;
@@ -34,7 +34,7 @@ pub(crate) fn read_value(kind: Kind, text: &[u8]) -> Option<Value>
         Kind::ReturnCode => decimal_number(text, 0, u32::MAX)
             .filter(|code| is_return_code(*code))
             .map(Value::Number),
-        Kind::Name => name_of(text).map(Value::Name),
+        Kind::Name(_) => name_of(text).map(Value::Name),
         Kind::Code => read_code(text).map(Value::Code),
         Kind::AbendCode => read_code(text)
             .filter(|code| is_abend_code(*code))
@@ -62,38 +62,12 @@ fn number(text: &[u8], base: u64, width: usize, least: u32, most: u32) -> Option
     if text.is_empty() || text.len() > width {
         return None;
     }
-    let number = digits(text, base)?;
+    let number = number_in(text, base)?;
     if u64::from(least) <= number && number <= u64::from(most) {
         Some(number as u32)
     } else {
         None
     }
-}
-
-// The number of at most ten digits in the base, the most significant first.
-fn digits(text: &[u8], base: u64) -> Option<u64>
-    requires few_digits { length text.now ≤ 10 }
-    requires small_base { base ≤ 16 }
-    ensures { result ≡ number_after base 0 text.now }
-{
-    let mut number = 0;
-    for byte in text {
-        number = number * base + digit(*byte, base)?;
-    }
-    Some(number)
-}
-
-// The digit that the byte stands for in the base.
-fn digit(byte: u8, base: u64) -> Option<u64>
-    ensures value { result ≡ digit_in base byte }
-    ensures below_base { IfSome result (λ digit. digit < base) }
-{
-    let digit = match byte {
-        b'0'..=b'9' => u64::from(byte - b'0'),
-        b'A'..=b'F' => u64::from(byte - b'A') + 10,
-        _ => return None,
-    };
-    if digit < base { Some(digit) } else { None }
 }
 
 fn is_return_code(code: u32) -> bool
@@ -120,27 +94,24 @@ fn is_normal_end(code: Code) -> bool
 fn yes_or_no(text: &[u8]) -> Option<bool>
     ensures { result ≡ flag_in yes_or_no text.now }
 {
-    if text == b"YES".as_slice() {
-        Some(true)
-    } else if text == b"NO".as_slice() {
-        Some(false)
-    } else {
-        None
+    match text {
+        b"YES" => Some(true),
+        b"NO" => Some(false),
+        _ => None,
     }
 }
 
 fn is_space(text: &[u8]) -> Option<bool>
     ensures { result ≡ flag_in scope_text text.now }
 {
-    if text == b"SPACE".as_slice() {
-        Some(true)
-    } else if text == b"TASK".as_slice() {
-        Some(false)
-    } else {
-        None
+    match text {
+        b"SPACE" => Some(true),
+        b"TASK" => Some(false),
+        _ => None,
     }
 }
 
+// (A match on byte strings as long as IGNORE is more than the prover's own search follows.)
 fn three(text: &[u8]) -> Option<Three>
     ensures { result ≡ three_in text.now }
 {
@@ -158,15 +129,11 @@ fn three(text: &[u8]) -> Option<Three>
 fn class(text: &[u8]) -> Option<Res>
     ensures { result ≡ class_in text.now }
 {
-    if text == b"ENQ".as_slice() {
-        Some(Res::Enq)
-    } else if text == b"STOR".as_slice() {
-        Some(Res::Stor)
-    } else if text == b"DSN".as_slice() {
-        Some(Res::Dsn)
-    } else if text == b"TIMR".as_slice() {
-        Some(Res::Timr)
-    } else {
-        None
+    match text {
+        b"ENQ" => Some(Res::Enq),
+        b"STOR" => Some(Res::Stor),
+        b"DSN" => Some(Res::Dsn),
+        b"TIMR" => Some(Res::Timr),
+        _ => None,
     }
 }

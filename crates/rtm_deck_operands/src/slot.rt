@@ -3,6 +3,18 @@
 /// How many slots a table has at most.
 pub const MOST_SLOTS: usize = 8;
 
+/// What the name in an operand names.
+#[derive(Clone, Copy, Debug, PartialEq, Eq)]
+pub enum NameOf {
+    Program,
+    Task,
+    Srb,
+    /// A label of the program in which the card stands.
+    OwnLabel,
+    /// A label of any program.
+    AnyLabel,
+}
+
 /// What may stand as the value of an operand.
 #[derive(Clone, Copy, Debug)]
 pub enum Kind {
@@ -12,8 +24,8 @@ pub enum Kind {
     Number { least: u32, most: u32 },
     /// One to ten decimal digits, with or without leading zeros: 0, 4 or 16.
     ReturnCode,
-    /// A name of 1 to 8 characters.
-    Name,
+    /// A name of 1 to 8 characters, of that thing.
+    Name(NameOf),
     /// A completion code.
     Code,
     /// A completion code that isn't S000, normal end.

@@ -11,7 +11,7 @@ use std::test::Fail;
 
 const PROGRAM: Slot = Slot {
     key: *b"PGM     ",
-    kind: Kind::Name,
+    kind: Kind::Name(NameOf::Program),
     left_out: LeftOut::Needed,
 };
 
@@ -60,7 +60,7 @@ const HOLD: [Slot; 2] = [
 const COMMAND: [Slot; 3] = [
     Slot {
         key: *b"        ",
-        kind: Kind::Name,
+        kind: Kind::Name(NameOf::Program),
         left_out: LeftOut::Needed,
     },
     Slot {
@@ -339,18 +339,4 @@ fn laws_are_calls() {
     laws::written_is_shortest();
     laws::written_is_plain();
     laws::fields_are_joined();
-}
-
-fn is_send<T: Send>() {}
-
-#[test]
-fn public_types_are_send() {
-    is_send::<Name>();
-    is_send::<Res>();
-    is_send::<Three>();
-    is_send::<Value>();
-    is_send::<Values>();
-    is_send::<Kind>();
-    is_send::<LeftOut>();
-    is_send::<Slot>();
 }

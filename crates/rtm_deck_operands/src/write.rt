@@ -7,8 +7,9 @@ ghost use Rattle.rtm_deck_operands.specs.Slot.{FitsSlots, canon_operand, canon_o
 use crate::name::trimmed_text;
 use crate::slot::{LeftOut, Slot};
 use crate::value::Value;
-use crate::write_value::{push_bytes, push_value};
+use crate::write_value::push_value;
 use rtm_codes::NoMemory;
+use rtm_text::push_bytes;
 
 /// Appends the canonical operands of a card (this profile): a blank and the operands with commas between them, or nothing
 /// where all are left out.

@@ -1,15 +1,14 @@
 //! Writing the text of a value.
 
-ghost use Rattle.std.specs.Prelude.{◌≡◌, ◌≤◌, ◌<◌, ◌++◌, ◌∷◌, [], IsTrue, OnOk};
-ghost use Rattle.rtm_codes.specs.Code.{digit_char};
+ghost use Rattle.std.specs.Prelude.{◌≡◌, ◌++◌, IsTrue, OnOk};
 ghost use Rattle.rtm_deck_operands.specs.Name.{trimmed_text};
-ghost use Rattle.rtm_deck_operands.specs.Numeral.{decimal_of, hexadecimal_of, numeral};
 ghost use Rattle.rtm_deck_operands.specs.Value.{answer_text, class_text, class_value_text, code_text, fits, flag_text, name_text, number_text, reason_text, scope_text, three_text, value_text, yes_or_no};
 
 use crate::name::Name;
 use crate::slot::Kind;
 use crate::value::{Res, Three, Value};
 use rtm_codes::{NoMemory, code_short};
+use rtm_text::{push_bytes, push_decimal, push_hexadecimal};
 
 /// Appends the text of a value of that kind.
 pub(crate) fn push_value(out: &mut Vec<u8>, kind: Kind, value: Value) -> Result<(), NoMemory>
@@ -19,7 +18,7 @@ pub(crate) fn push_value(out: &mut Vec<u8>, kind: Kind, value: Value) -> Result<
     match kind {
         Kind::Word(word) => push_before_blank(out, &word),
         Kind::Number { .. } | Kind::ReturnCode => push_number(out, value),
-        Kind::Name => push_name_value(out, value),
+        Kind::Name(_) => push_name_value(out, value),
         Kind::Code | Kind::AbendCode => push_code(out, value),
         Kind::Reason => push_reason(out, value),
         Kind::YesNo => push_yes_or_no(out, value),
@@ -33,7 +32,7 @@ fn push_number(out: &mut Vec<u8>, value: Value) -> Result<(), NoMemory>
     ensures { OnOk result (out.new.items ≡ out.old.items ++ number_text value) }
 {
     match value {
-        Value::Number(number) => push_decimal(out, number),
+        Value::Number(number) => push_decimal(out, u64::from(number)),
         _ => Ok(()),
     }
 }
@@ -109,53 +108,6 @@ fn push_class(out: &mut Vec<u8>, value: Value) -> Result<(), NoMemory>
     }
 }
 
-#[tactic(auto, unfolding(crate::specs::Numeral::decimal_of))]
-fn push_decimal(out: &mut Vec<u8>, number: u32) -> Result<(), NoMemory>
-    ensures { OnOk result (out.new.items ≡ out.old.items ++ decimal_of number) }
-{
-    push_numeral(out, 10, 9, number)
-}
-
-#[tactic(auto, unfolding(crate::specs::Numeral::hexadecimal_of))]
-fn push_hexadecimal(out: &mut Vec<u8>, number: u32) -> Result<(), NoMemory>
-    ensures { OnOk result (out.new.items ≡ out.old.items ++ hexadecimal_of number) }
-{
-    push_numeral(out, 16, 7, number)
-}
-
-// Appends the digits of a number that has at most `others` of them before its last, without leading zeros.
-fn push_numeral(out: &mut Vec<u8>, base: u32, others: u32, number: u32) -> Result<(), NoMemory>
-    requires some_digits { 0 < base }
-    requires few_digits { base ≤ 16 }
-    ensures { OnOk result (out.new.items ≡ out.old.items ++ numeral base others number) }
-{
-    if others == 0 || number < base {
-        return push_digit(out, number % base);
-    }
-    push_numeral(out, base, others - 1, number / base)?;
-    push_digit(out, number % base)
-}
-
-fn push_digit(out: &mut Vec<u8>, digit: u32) -> Result<(), NoMemory>
-    requires { digit < 16 }
-    ensures { OnOk result (out.new.items ≡ out.old.items ++ digit_char digit ∷ []) }
-{
-    out.push(character(digit))?;
-    Ok(())
-}
-
-// The character of a digit: 0 to 9, and then A to F.
-fn character(digit: u32) -> u8
-    requires { digit < 16 }
-    ensures { result ≡ digit_char digit }
-{
-    if digit < 10 {
-        b'0' + digit as u8
-    } else {
-        b'A' + (digit - 10) as u8
-    }
-}
-
 /// Appends a name without its padding, 1 to 8 characters. The only error is want of memory.
 pub fn push_name(out: &mut Vec<u8>, name: &Name) -> Result<(), NoMemory>
     ensures { OnOk result (out.new.items ≡ out.old.items ++ trimmed_text name.now) }
@@ -173,12 +125,5 @@ fn push_before_blank(out: &mut Vec<u8>, bytes: &[u8]) -> Result<(), NoMemory>
         }
         out.push(*byte)?;
     }
-    Ok(())
-}
-
-pub(crate) fn push_bytes(out: &mut Vec<u8>, bytes: &[u8]) -> Result<(), NoMemory>
-    ensures { OnOk result (out.new.items ≡ out.old.items ++ bytes.now) }
-{
-    out.extend_from_slice(bytes)?;
     Ok(())
 }

@@ -6,6 +6,7 @@ use Rattle.std.proofs.lemmas.Bool.{or_from, or_parts, and_left, and_right, false
 use Rattle.std.proofs.lemmas.List.Sums.{sum_by-cons, take_while-cons}
 use Rattle.std.proofs.lemmas.Slice.Eq.{bytes_eq-Decides}
 use Rattle.rtm_deck_operands.specs.Name.{padded_text, trimmed_text, is_padded_name}
+use Rattle.rtm_cards.specs.Limits.{most_programs, most_units, most_commands}
 use Rattle.rtm_cards.specs.Cards.{CardText}
 use Rattle.rtm_deck_items.specs.declared.deck.Unit.{Unit as UnitCard}
 use Rattle.rtm_deck_items.specs.declared.deck.UnitKind.{UnitKind}
@@ -53,9 +54,9 @@ pub record Kept (earlier : List CardText) (programs : List (List ℕ)) (units : 
   pub no_oper : has_operation (codes "OPER") earlier ≡ false
   pub free_programs : AreFree (has_program earlier) programs
   pub free_units : AreFree (has_unit earlier) (map (λ u. u.name) units)
-  pub program_count : count_by (is_called (codes "PROG")) earlier + length programs ≤ 256
-  pub unit_count : count_by is_unit_card earlier + length units ≤ 64
-  pub command_count : count_by (is_called (codes "CANCEL")) earlier + commands ≤ 64
+  pub program_count : count_by (is_called (codes "PROG")) earlier + length programs ≤ most_programs
+  pub unit_count : count_by is_unit_card earlier + length units ≤ most_units
+  pub command_count : count_by (is_called (codes "CANCEL")) earlier + commands ≤ most_commands
   pub task : (has_operation (codes "TASK") earlier || list_any is_task_card units) ≡ true
 
 -- The card is none of those that are counted or end a deck.

@@ -24,7 +24,7 @@ use Rattle.rtm_deck_items.specs.declared.op.Setrp.{Setrp}
 use Rattle.rtm_deck_items.specs.declared.form.CardForm.{CardForm}
 use Rattle.rtm_deck_items.specs.declared.form.CardForm.TheVariants as forms
 use Rattle.rtm_deck_items.specs.View.{ProgramView, DeckView}
-use Rattle.rtm_deck_items.specs.Items.{Item, LimitCard, ProgramStart, ProgramCard, ProgramEnd, UnitOfWork, CommandsStart, CommandCard, DeckEnd, form_of_op, values_of_op, form_of, values_of, name_of, label_text, program_name, unit_name}
+use Rattle.rtm_deck_items.specs.Items.{Item, RegionCard, ProgramStart, ProgramCard, ProgramEnd, UnitOfWork, CommandsStart, CommandCard, DeckEnd, form_of_op, values_of_op, form_of, values_of, name_of, label_text, program_name, unit_name}
 use Rattle.rtm_deck_items.specs.Reading.{is_task_card}
 use Rattle.rtm_cards.specs.Name.{is_name}
 use Rattle.rtm_deck_items.specs.WellFormed.{are_distinct, is_label, is_op, is_program, is_program_or_none, is_task_in, is_srb_in, is_unit_of, is_command_of, is_abend_code, is_reason}
@@ -163,6 +163,7 @@ op_of programs units forms.SetRp vs = ops.SetRp (record {
   logrec = three_or_none (value_at vs 6);
   fresdwa = flag_or_none (value_at vs 7);
 })
+op_of programs units forms.Ret15 vs = ops.Ret15 (the_number (value_at vs 0)) (label_or_none (value_at vs 1))
 op_of programs units forms.Branch vs = ops.Branch (the_label (value_at vs 0))
 op_of programs units forms.IfCode vs = ops.IfCode (the_code (value_at vs 0)) (the_label (value_at vs 1))
 op_of programs units forms.IfClup vs = ops.IfClup (the_label (value_at vs 0))
@@ -177,7 +178,7 @@ label_of (b ∷ bs) = Some (padded_text (b ∷ bs))
 
 -- the item that a card of that form says, with that name and these values
 abbrev item_of : List (List ℕ) → List (List ℕ) → CardForm → List ℕ → List (Option Value) → Item
-item_of programs units forms.Region name vs = LimitCard (the_number (value_at vs 0))
+item_of programs units forms.Region name vs = RegionCard (the_number (value_at vs 0)) (the_flag (value_at vs 1))
 item_of programs units forms.Prog name vs = ProgramStart (padded_text name)
 item_of programs units forms.Pend name vs = ProgramEnd
 item_of programs units forms.Task name vs = UnitOfWork (record { name = padded_text name; kind = Task; prog = number_in programs (value_at vs 0); related = None })
@@ -189,7 +190,7 @@ item_of programs units form name vs = ProgramCard (record { label = label_of nam
 
 -- what holds of an item of a well formed deck
 abbrev pub Good : DeckView → Item → Type 0
-Good d (LimitCard limit) = Unit {0}
+Good d (RegionCard limit sdwa) = Unit {0}
 Good d (ProgramStart name) = IsTrue (is_padded_name name)
 Good d (ProgramCard line) = IsTrue (is_label line.label) × ((lines : List Line) × IsTrue (is_op d lines line.op))
 Good d ProgramEnd = Unit {0}
@@ -277,34 +278,21 @@ options_found s = rw (kept_number s.rc, kept_label s.retaddr, kept_flag s.remrec
 
 -- an operation is found again from its card
 pub op_found : (d : DeckView) (lines : List Line) (op : Op) → Named d → IsTrue (is_op d lines op) → op_of (program_names d) (unit_names d) (form_of_op op) (values_of_op d op) ≡ op
-op_found d lines ops.Nop named h = refl
-op_found d lines (ops.Get class id) named h = refl
-op_found d lines (ops.Free class id) named h = refl
 op_found d lines (ops.Link prog) named h = ap (λ (x : ℕ). ops.Link x) (program_found d prog named h)
 op_found d lines (ops.Xctl prog) named h = ap (λ (x : ℕ). ops.Xctl x) (program_found d prog named h)
-op_found d lines ops.Return named h = refl
 op_found d lines (ops.Abend code reason dump step) named h = ap (λ (x : Option ℕ). ops.Abend code x dump step) (kept_reason reason)
 op_found d lines (ops.EstaexCt prog term cancel xctl) named h = ap (λ (x : ℕ). ops.EstaexCt x term cancel xctl) (program_found d prog named h)
 op_found d lines (ops.EstaexOv prog term cancel xctl) named h = ap (λ (x : ℕ). ops.EstaexOv x term cancel xctl) (program_found d prog named h)
-op_found d lines ops.EstaexZero named h = refl
 op_found d lines (ops.FrrAdd prog) named h = ap (λ (x : ℕ). ops.FrrAdd x) (program_found d prog named h)
-op_found d lines ops.FrrDelete named h = refl
 op_found d lines (ops.FrrReplace prog) named h = ap (λ (x : ℕ). ops.FrrReplace x) (program_found d prog named h)
-op_found d lines ops.FrrPurge named h = refl
 op_found d lines (ops.Detach unit stae) named h = ap (λ (x : ℕ). ops.Detach x stae) (task_found d unit named h)
 op_found d lines (ops.Abterm unit code reason dump retry) named h = let g = (both_true _ (is_reason reason) h).0 in let t = (both_true (is_task_in d unit) (is_abend_code code) g).0 in rw (task_found d unit named t, kept_reason reason) refl
-op_found d lines (ops.Memterm code) named h = refl
 op_found d lines (ops.MgrAdd prog space) named h = ap (λ (x : ℕ). ops.MgrAdd x space) (program_found d prog named h)
 op_found d lines (ops.MgrDelete prog space) named h = ap (λ (x : ℕ). ops.MgrDelete x space) (program_found d prog named h)
 op_found d lines (ops.Schedule unit) named h = ap (λ (x : ℕ). ops.Schedule x) (srb_found d unit named h)
-op_found d lines (ops.Wait event) named h = refl
 op_found d lines (ops.WaitTask unit) named h = ap (λ (x : ℕ). ops.WaitTask x) (task_found d unit named h)
-op_found d lines (ops.Post event) named h = refl
 op_found d lines (ops.SetRp setrp) named h = ap ops.SetRp (options_found setrp)
-op_found d lines (ops.Branch label) named h = refl
-op_found d lines (ops.IfCode code label) named h = refl
-op_found d lines (ops.IfClup label) named h = refl
-op_found d lines (ops.IfPerc label) named h = refl
+op_found d lines (ops.Ret15 rc label) named h = ap (λ (x : Option (List ℕ)). ops.Ret15 rc x) (kept_label label)
 op_found d lines (ops.Attachx unit None true) named h = absurd (let p = (both_true (is_task_in d unit && is_program_or_none d None) (is_some {T = ℕ} None || not true) h).1 in cc)
 op_found d lines (ops.Attachx unit None false) named h =
     let p = both_true (is_task_in d unit && is_program_or_none d None) true h in
@@ -314,6 +302,7 @@ op_found d lines (ops.Attachx unit (Some prog) term) named h =
     let p = (both_true (is_task_in d unit && is_program d prog) true h).0 in
     let t = both_true (is_task_in d unit) (is_program d prog) p in
     rw (task_found d unit named t.0, program_found d prog named t.1) refl
+op_found d lines _ named h = refl
 
 pub label_found : (label : Option (List ℕ)) → IsTrue (is_label label) → label_of (label_text label) ≡ label
 label_found None h = refl
@@ -325,36 +314,9 @@ label_found (Some name) h = let p = padded_parts name h in go (trimmed_text name
 
 line_found : (programs units : List (List ℕ)) (op : Op) (name : List ℕ) (vs : List (Option Value))
     → item_of programs units (form_of_op op) name vs ≡ ProgramCard (record { label = label_of name; op = op_of programs units (form_of_op op) vs })
-line_found programs units ops.Nop name vs = refl
-line_found programs units (ops.Get class id) name vs = refl
-line_found programs units (ops.Free class id) name vs = refl
-line_found programs units (ops.Link prog) name vs = refl
-line_found programs units (ops.Xctl prog) name vs = refl
-line_found programs units ops.Return name vs = refl
-line_found programs units (ops.Abend code reason dump step) name vs = refl
-line_found programs units (ops.EstaexCt prog term cancel xctl) name vs = refl
-line_found programs units (ops.EstaexOv prog term cancel xctl) name vs = refl
-line_found programs units ops.EstaexZero name vs = refl
-line_found programs units (ops.FrrAdd prog) name vs = refl
-line_found programs units ops.FrrDelete name vs = refl
-line_found programs units (ops.FrrReplace prog) name vs = refl
-line_found programs units ops.FrrPurge name vs = refl
-line_found programs units (ops.Detach unit stae) name vs = refl
-line_found programs units (ops.Abterm unit code reason dump retry) name vs = refl
-line_found programs units (ops.Memterm code) name vs = refl
-line_found programs units (ops.MgrAdd prog space) name vs = refl
-line_found programs units (ops.MgrDelete prog space) name vs = refl
-line_found programs units (ops.Schedule unit) name vs = refl
-line_found programs units (ops.Wait event) name vs = refl
-line_found programs units (ops.WaitTask unit) name vs = refl
-line_found programs units (ops.Post event) name vs = refl
-line_found programs units (ops.SetRp setrp) name vs = refl
-line_found programs units (ops.Branch label) name vs = refl
-line_found programs units (ops.IfCode code label) name vs = refl
-line_found programs units (ops.IfClup label) name vs = refl
-line_found programs units (ops.IfPerc label) name vs = refl
 line_found programs units (ops.Attachx unit None term) name vs = refl
 line_found programs units (ops.Attachx unit (Some prog) term) name vs = refl
+line_found programs units _ name vs = refl
 
 same_line : (a b : Option (List ℕ)) (x y : Op) → a ≡ b → x ≡ y → ProgramCard (record { label = a; op = x }) ≡ ProgramCard (record { label = b; op = y })
 same_line a b x y e f = rw (e, f) refl
@@ -395,7 +357,7 @@ command_found d command named h =
 -- an item is found again from its card
 pub item_found : (d : DeckView) (item : Item) → Named d → Good d item
     → item_of (program_names d) (unit_names d) (form_of item) (name_of item) (values_of d item) ≡ item
-item_found d (LimitCard limit) named good = refl
+item_found d (RegionCard limit sdwa) named good = refl
 item_found d (ProgramStart name) named good = ap ProgramStart (sym (padded_parts name good).whole)
 item_found d (ProgramCard line) named good =
     line_found (program_names d) (unit_names d) line.op (label_text line.label) (values_of_op d line.op)

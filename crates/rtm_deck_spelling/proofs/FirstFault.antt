@@ -1,20 +1,26 @@
 -- An input has at most one first fault.
-use Rattle.std.proofs.Common.{◌≡◌, ℕ, ◌+◌, true, List, [], ◌∷◌, length, Option, Some, None, refl, ap, sym, ◌∙◌, inl, inr}
+use Rattle.std.proofs.Common.{◌≡◌, ℕ, ◌+◌, Bool, true, false, not, List, [], ◌∷◌, length, Option, Some, None, refl, ap, sym, ◌∙◌, inl, inr}
 use Rattle.std.specs.Prelude.{codes}
-use Rattle.std.proofs.lemmas.Bool.{not-true, cases_lt, both_ways}
+use Rattle.std.specs.List.{list_any, list_all}
+use Rattle.std.proofs.lemmas.Bool.{and_parts, not-true, cases_lt, both_ways}
 use Rattle.rtm_deck_operands.specs.declared.value.Value.{Value}
 use Rattle.rtm_deck_operands.specs.declared.value.Value.TheVariants as values
+use Rattle.rtm_deck_operands.specs.declared.slot.Slot.{Slot}
+use Rattle.rtm_deck_operands.specs.declared.slot.Kind.{Kind}
+use Rattle.rtm_deck_operands.specs.declared.slot.Kind.TheVariants as kinds
+use Rattle.rtm_deck_operands.specs.declared.slot.NameOf.{NameOf}
+use Rattle.rtm_deck_operands.specs.declared.slot.NameOf.TheVariants as names
 use Rattle.rtm_cards.specs.declared.fault.CutWhy.{CutWhy}
-use Rattle.rtm_cards.specs.Limits.{max_bytes}
+use Rattle.rtm_cards.specs.Limits.{most_bytes}
 use Rattle.rtm_cards.specs.Lines.{lines_of}
 use Rattle.rtm_cards.specs.Rules.{fault_of}
 use Rattle.rtm_cards.specs.Cards.{CardText, card_of, cards_from}
 use Rattle.rtm_deck_items.specs.declared.why.Why.{Why}
 use Rattle.rtm_deck_items.specs.declared.why.Why.TheVariants.{UnknownName, UnknownLabel}
 use Rattle.rtm_deck_items.specs.declared.form.CardForm.{CardForm}
-use Rattle.rtm_deck_items.specs.declared.form.CardForm.TheVariants as forms
-use Rattle.rtm_deck_items.specs.Faults.{BreaksFirst, BreaksNone, rules, HasFault, HasNone, with_line, FormFault, NoFormFault, Reference, Nothing, references_of, why_of_reference, is_value_found, NamesUnfound, HasNameFault, own_program, NameFault, LacksEnd, LacksName, LinesFault, IsFirstFault, has_operation}
-use Rattle.rtm_deck_spelling.proofs.Forms.{one_form}
+use Rattle.rtm_deck_items.specs.Forms.{slots_of}
+use Rattle.rtm_deck_items.specs.Faults.{BreaksFirst, BreaksNone, rules, HasFault, HasNone, with_line, FormFault, NoFormFault, why_of_name, IsUnfound, NamesUnfound, HasNameFault, own_program, NameFault, LacksEnd, LacksName, LinesFault, IsFirstFault, has_operation}
+use Rattle.rtm_deck_spelling.proofs.Forms.{for_each_test, one_form}
 
 -- a rule that is broken first is one alone
 pub one_breaks_first : (earlier : List CardText) (c : CardText) (rules : List Why) (p q : Why) → BreaksFirst earlier c rules p → BreaksFirst earlier c rules q → p ≡ q
@@ -54,80 +60,66 @@ form_fault_and_none earlier number [] a p f g = f
 form_fault_and_none earlier number (line ∷ lines) a p (inl f) g = fault_and_none earlier number line (fault_of number line) p f.0 g.0
 form_fault_and_none earlier number (line ∷ lines) a p (inr f) g = form_fault_and_none (with_line earlier number line) (number + 1) lines a p f.1 g.1
 
--- each of the references that can be unfound is refused for that reason
-abbrev pub AllRefused : List Reference → Why → Type 0
-AllRefused [] why = Unit {0}
-AllRefused (Nothing ∷ references) why = AllRefused references why
-AllRefused (reference ∷ references) why = (why_of_reference reference ≡ why) × AllRefused references why
+abbrev is_label_name : NameOf → Bool
+is_label_name names.OwnLabel = true
+is_label_name names.AnyLabel = true
+is_label_name _ = false
 
-pub nothing_is_found : (cards own : List CardText) (value : Option Value) → is_value_found cards own Nothing value ≡ true
-nothing_is_found cards own None = refl
-nothing_is_found cards own (Some (values.Name name)) = refl
-nothing_is_found cards own (Some _) = refl
+-- the fault of a name of that sort
+abbrev why_for : Bool → Why
+why_for true = UnknownLabel
+why_for false = UnknownName
 
-pub one_reason : (cards own : List CardText) (references : List Reference) (vs : List (Option Value)) (p q : Why) → AllRefused references q → NamesUnfound cards own references vs p → p ≡ q
-one_reason cards own [] vs p q all f = absurd f
-one_reason cards own (reference ∷ references) [] p q all f = absurd f
-one_reason cards own (Nothing ∷ references) (v ∷ vs) p q all (inl f) = absurd (both_ways (is_value_found cards own Nothing v) (not-true _ f.0) (nothing_is_found cards own v))
-one_reason cards own (Nothing ∷ references) (v ∷ vs) p q all (inr f) = one_reason cards own references vs p q all f
-one_reason cards own (reference ∷ references) (v ∷ vs) p q all (inl f) = f.1 ∙ all.0
-one_reason cards own (reference ∷ references) (v ∷ vs) p q all (inr f) = one_reason cards own references vs p q all.1 f
+-- an operand of that kind names a label
+abbrev names_label : Kind → Bool
+names_label (kinds.Name named) = is_label_name named
+names_label _ = false
 
--- what a form's operands that name nothing are refused for
-abbrev pub reason_of : CardForm → Why
-reason_of forms.SetRp = UnknownLabel
-reason_of forms.Branch = UnknownLabel
-reason_of forms.IfCode = UnknownLabel
-reason_of forms.IfClup = UnknownLabel
-reason_of forms.IfPerc = UnknownLabel
-reason_of _ = UnknownName
+-- an operand of that kind names nothing, or something of that sort
+abbrev is_of_sort : Bool → Kind → Bool
+is_of_sort true (kinds.Name named) = is_label_name named
+is_of_sort false (kinds.Name named) = not (is_label_name named)
+is_of_sort labels _ = true
 
-pub all_refused : (form : CardForm) → AllRefused (references_of form) (reason_of form)
-all_refused forms.Region = tt
-all_refused forms.Prog = tt
-all_refused forms.Pend = tt
-all_refused forms.Task = (refl, tt)
-all_refused forms.Srb = (refl, (refl, tt))
-all_refused forms.Oper = tt
-all_refused forms.Cancel = (refl, tt)
-all_refused forms.End = tt
-all_refused forms.Nop = tt
-all_refused forms.Get = tt
-all_refused forms.Free = tt
-all_refused forms.Link = (refl, tt)
-all_refused forms.Xctl = (refl, tt)
-all_refused forms.Return = tt
-all_refused forms.Abend = tt
-all_refused forms.EstaexCt = (refl, tt)
-all_refused forms.EstaexOv = (refl, tt)
-all_refused forms.EstaexZero = tt
-all_refused forms.FrrAdd = (refl, tt)
-all_refused forms.FrrDelete = tt
-all_refused forms.FrrReplace = (refl, tt)
-all_refused forms.FrrPurge = tt
-all_refused forms.Attachx = (refl, tt)
-all_refused forms.AttachxEstai = (refl, (refl, tt))
-all_refused forms.Detach = (refl, tt)
-all_refused forms.Abterm = (refl, tt)
-all_refused forms.Memterm = tt
-all_refused forms.MgrAdd = (refl, tt)
-all_refused forms.MgrDelete = (refl, tt)
-all_refused forms.Schedule = (refl, tt)
-all_refused forms.Wait = tt
-all_refused forms.WaitTask = (refl, tt)
-all_refused forms.Post = tt
-all_refused forms.SetRp = (refl, tt)
-all_refused forms.Branch = (refl, tt)
-all_refused forms.IfCode = (refl, tt)
-all_refused forms.IfClup = (refl, tt)
-all_refused forms.IfPerc = (refl, tt)
+-- some operand of these names a label
+abbrev name_labels : List Slot → Bool
+name_labels slots = list_any (λ slot. names_label slot.kind) slots
+
+-- what a form's operands name is of one sort
+abbrev pub is_one_sort : CardForm → Bool
+is_one_sort form = list_all (λ slot. is_of_sort (name_labels (slots_of form)) slot.kind) (slots_of form)
+
+reason_of_sort : (labels : Bool) (named : NameOf) → is_of_sort labels (kinds.Name named) ≡ true → why_of_name named ≡ why_for labels
+reason_of_sort true names.OwnLabel h = refl
+reason_of_sort true names.AnyLabel h = refl
+reason_of_sort false names.Program h = refl
+reason_of_sort false names.Task h = refl
+reason_of_sort false names.Srb h = refl
+reason_of_sort _ _ h = absurd cc
+
+reason_of_value : (cards own : List CardText) (labels : Bool) (kind : Kind) (value : Option Value) (why : Why) → is_of_sort labels kind ≡ true → IsUnfound cards own kind value why
+    → why ≡ why_for labels
+reason_of_value cards own labels (kinds.Name named) (Some (values.Name name)) why h f = f.1 ∙ reason_of_sort labels named h
+reason_of_value cards own labels kind value why h f = absurd f
+
+one_reason : (cards own : List CardText) (labels : Bool) (slots : List Slot) (vs : List (Option Value)) (why : Why) → list_all (λ slot. is_of_sort labels slot.kind) slots ≡ true
+    → NamesUnfound cards own slots vs why → why ≡ why_for labels
+one_reason cards own labels [] vs why h f = absurd f
+one_reason cards own labels (slot ∷ slots) [] why h f = absurd f
+one_reason cards own labels (slot ∷ slots) (v ∷ vs) why h (inl f) =
+    reason_of_value cards own labels slot.kind v why (and_parts (is_of_sort labels slot.kind) _ h).0 f
+one_reason cards own labels (slot ∷ slots) (v ∷ vs) why h (inr f) = one_reason cards own labels slots vs why (and_parts (is_of_sort labels slot.kind) _ h).1 f
+
+-- the one reason for which a card of a form is refused
+pub reason_of_form : (cards own : List CardText) (form : CardForm) (vs : List (Option Value)) (why : Why) → NamesUnfound cards own (slots_of form) vs why → why ≡ why_for (name_labels (slots_of form))
+reason_of_form cards own form vs why f = one_reason cards own (name_labels (slots_of form)) (slots_of form) vs why (for_each_test is_one_sort refl form) f
 
 -- a card is refused for one reason
 pub one_name_fault_of_card : (cards own : List CardText) (c : CardText) (p q : Why) → HasNameFault cards own c p → HasNameFault cards own c q → p ≡ q
 one_name_fault_of_card cards own c p q f g =
     let same = one_form f.form g.form c.operands f.values g.values f.operands g.operands (f.operation ∙ sym g.operation) in
-    one_reason cards own (references_of f.form) f.values p (reason_of f.form) (all_refused f.form) f.unfound
-    ∙ (ap reason_of same ∙ sym (one_reason cards own (references_of g.form) g.values q (reason_of g.form) (all_refused g.form) g.unfound))
+    reason_of_form cards own f.form f.values p f.unfound
+    ∙ (ap (λ (form : CardForm). why_for (name_labels (slots_of form))) same ∙ sym (reason_of_form cards own g.form g.values q g.unfound))
 
 pub one_name_fault : (cards earlier later : List CardText) (a b : ℕ) (p q : Why) → NameFault cards earlier later a p → NameFault cards earlier later b q → Same a b p q
 one_name_fault cards earlier [] a b p q f g = absurd f
@@ -151,7 +143,7 @@ one_lines_fault lines a b p q (inr (inr f)) (inr (inl g)) = absurd (end_or_none 
 one_lines_fault lines a b p q (inr (inr f)) (inr (inr g)) = one_name_fault (cards_from 1 lines) [] (cards_from 1 lines) a b p q f.unfound g.unfound
 
 pub one_fault_of_input : (bytes : List ℕ) (a b : ℕ) (p q : Why) → IsFirstFault bytes a p → IsFirstFault bytes b q → Same a b p q
-one_fault_of_input bytes a b p q f g = elim (cases_lt max_bytes (length bytes)) [
+one_fault_of_input bytes a b p q f g = elim (cases_lt most_bytes (length bytes)) [
   | inl over ↦ let x = f.by_size over in let y = g.by_size over in (x.0 ∙ sym y.0, x.1 ∙ sym y.1)
   | inr few ↦ one_lines_fault (lines_of bytes) a b p q (f.by_card few) (g.by_card few)
 ]

@@ -1,5 +1,5 @@
 -- Of the forms of one operation at most one is spelled by some operands, with one list of values.
-use Rattle.std.proofs.Common.{◌≡◌, ℕ, suc, ◌+◌, ◌≤◌, Bool, true, false, not, ◌&&◌, ◌||◌, cond, eqb, List, [], ◌∷◌, ◌++◌, length, Option, Some, None, refl, ap, sym, subst, ◌∙◌, inl, inr, arith, length-append}
+use Rattle.std.proofs.Common.{◌≡◌, ℕ, zero, suc, ◌+◌, ◌≤◌, Bool, true, false, not, ◌&&◌, ◌||◌, cond, eqb, List, [], ◌∷◌, ◌++◌, length, Option, Some, None, refl, ap, sym, subst, ◌∙◌, inl, inr, arith, length-append}
 use Rattle.std.specs.Prelude.{bytes_eq, nat_eq, nat_lt, slice_index_or, slice_get, if◌then◌else◌}
 use Rattle.std.specs.List.{list_all, AllByRecursion}
 use Rattle.std.proofs.lemmas.Bool.{and_parts, or_cases, eqb-true, ltb-true, not-true}
@@ -15,59 +15,10 @@ use Rattle.rtm_deck_operands.specs.Name.{trimmed_text}
 use Rattle.rtm_deck_operands.specs.Value.{Spells}
 use Rattle.rtm_deck_operands.specs.Slot.{operand_text, LeftOutMeans, StandsBehind, SpellsSlots, is_positional, is_needed, well_made, IsWellMade}
 use Rattle.rtm_deck_items.specs.declared.form.CardForm.{CardForm}
-use Rattle.rtm_deck_items.specs.declared.form.CardForm.TheVariants.{Region, Prog, Pend, Task, Srb, Oper, Cancel, End, Nop, Get, Free, Link, Xctl, Return, Abend, EstaexCt, EstaexOv, EstaexZero, FrrAdd, FrrDelete, FrrReplace, FrrPurge, Attachx, AttachxEstai, Detach, Abterm, Memterm, MgrAdd, MgrDelete, Schedule, Wait, WaitTask, Post, SetRp, Branch, IfCode, IfClup, IfPerc}
+use Rattle.rtm_deck_items.specs.declared.form.CardForm.TheVariants.{Region, Prog, Pend, Task, Srb, Oper, Cancel, End, Nop, Get, Free, Link, Xctl, Return, Abend, EstaexCt, EstaexOv, EstaexZero, FrrAdd, FrrDelete, FrrReplace, FrrPurge, Attachx, AttachxEstai, Detach, Abterm, Memterm, MgrAdd, MgrDelete, Schedule, Wait, WaitTask, Post, SetRp, Ret15, Branch, IfCode, IfClup, IfPerc}
 use Rattle.rtm_deck_items.specs.Forms.{all_forms, operation_of, slots_of}
 use Rattle.rtm_deck_items.specs.Spelling.{SpellsOperands, SpellsForm}
 use Rattle.rtm_deck_spelling.proofs.Values.{one_list_of_values}
-
--- what holds of all forms, one after the other, holds of each
-pub for_each : (P : CardForm → Type 0) → AllByRecursion P all_forms → (f : CardForm) → P f
-for_each P h Region = h.0
-for_each P h Prog = h.1.0
-for_each P h Pend = h.1.1.0
-for_each P h Task = h.1.1.1.0
-for_each P h Srb = h.1.1.1.1.0
-for_each P h Oper = h.1.1.1.1.1.0
-for_each P h Cancel = h.1.1.1.1.1.1.0
-for_each P h End = h.1.1.1.1.1.1.1.0
-for_each P h Nop = h.1.1.1.1.1.1.1.1.0
-for_each P h Get = h.1.1.1.1.1.1.1.1.1.0
-for_each P h Free = h.1.1.1.1.1.1.1.1.1.1.0
-for_each P h Link = h.1.1.1.1.1.1.1.1.1.1.1.0
-for_each P h Xctl = h.1.1.1.1.1.1.1.1.1.1.1.1.0
-for_each P h Return = h.1.1.1.1.1.1.1.1.1.1.1.1.1.0
-for_each P h Abend = h.1.1.1.1.1.1.1.1.1.1.1.1.1.1.0
-for_each P h EstaexCt = h.1.1.1.1.1.1.1.1.1.1.1.1.1.1.1.0
-for_each P h EstaexOv = h.1.1.1.1.1.1.1.1.1.1.1.1.1.1.1.1.0
-for_each P h EstaexZero = h.1.1.1.1.1.1.1.1.1.1.1.1.1.1.1.1.1.0
-for_each P h FrrAdd = h.1.1.1.1.1.1.1.1.1.1.1.1.1.1.1.1.1.1.0
-for_each P h FrrDelete = h.1.1.1.1.1.1.1.1.1.1.1.1.1.1.1.1.1.1.1.0
-for_each P h FrrReplace = h.1.1.1.1.1.1.1.1.1.1.1.1.1.1.1.1.1.1.1.1.0
-for_each P h FrrPurge = h.1.1.1.1.1.1.1.1.1.1.1.1.1.1.1.1.1.1.1.1.1.0
-for_each P h Attachx = h.1.1.1.1.1.1.1.1.1.1.1.1.1.1.1.1.1.1.1.1.1.1.0
-for_each P h AttachxEstai = h.1.1.1.1.1.1.1.1.1.1.1.1.1.1.1.1.1.1.1.1.1.1.1.0
-for_each P h Detach = h.1.1.1.1.1.1.1.1.1.1.1.1.1.1.1.1.1.1.1.1.1.1.1.1.0
-for_each P h Abterm = h.1.1.1.1.1.1.1.1.1.1.1.1.1.1.1.1.1.1.1.1.1.1.1.1.1.0
-for_each P h Memterm = h.1.1.1.1.1.1.1.1.1.1.1.1.1.1.1.1.1.1.1.1.1.1.1.1.1.1.0
-for_each P h MgrAdd = h.1.1.1.1.1.1.1.1.1.1.1.1.1.1.1.1.1.1.1.1.1.1.1.1.1.1.1.0
-for_each P h MgrDelete = h.1.1.1.1.1.1.1.1.1.1.1.1.1.1.1.1.1.1.1.1.1.1.1.1.1.1.1.1.0
-for_each P h Schedule = h.1.1.1.1.1.1.1.1.1.1.1.1.1.1.1.1.1.1.1.1.1.1.1.1.1.1.1.1.1.0
-for_each P h Wait = h.1.1.1.1.1.1.1.1.1.1.1.1.1.1.1.1.1.1.1.1.1.1.1.1.1.1.1.1.1.1.0
-for_each P h WaitTask = h.1.1.1.1.1.1.1.1.1.1.1.1.1.1.1.1.1.1.1.1.1.1.1.1.1.1.1.1.1.1.1.0
-for_each P h Post = h.1.1.1.1.1.1.1.1.1.1.1.1.1.1.1.1.1.1.1.1.1.1.1.1.1.1.1.1.1.1.1.1.0
-for_each P h SetRp = h.1.1.1.1.1.1.1.1.1.1.1.1.1.1.1.1.1.1.1.1.1.1.1.1.1.1.1.1.1.1.1.1.1.0
-for_each P h Branch = h.1.1.1.1.1.1.1.1.1.1.1.1.1.1.1.1.1.1.1.1.1.1.1.1.1.1.1.1.1.1.1.1.1.1.0
-for_each P h IfCode = h.1.1.1.1.1.1.1.1.1.1.1.1.1.1.1.1.1.1.1.1.1.1.1.1.1.1.1.1.1.1.1.1.1.1.1.0
-for_each P h IfClup = h.1.1.1.1.1.1.1.1.1.1.1.1.1.1.1.1.1.1.1.1.1.1.1.1.1.1.1.1.1.1.1.1.1.1.1.1.0
-for_each P h IfPerc = h.1.1.1.1.1.1.1.1.1.1.1.1.1.1.1.1.1.1.1.1.1.1.1.1.1.1.1.1.1.1.1.1.1.1.1.1.1.0
-
-pub passed : {X : Type 0} (test : X → Bool) (xs : List X) → list_all test xs ≡ true → AllByRecursion (λ x. test x ≡ true) xs
-passed test [] e = tt
-passed test (x ∷ xs) e = let parts = and_parts (test x) (list_all test xs) e in (parts.0, passed test xs parts.1)
-
--- a test that all forms pass is passed by each
-pub for_each_test : (test : CardForm → Bool) → list_all test all_forms ≡ true → (f : CardForm) → test f ≡ true
-for_each_test test e f = for_each (λ f. test f ≡ true) (passed test all_forms e) f
 
 -- the place of a form among all
 abbrev number_of : CardForm → ℕ
@@ -105,53 +56,36 @@ number_of Wait = 30
 number_of WaitTask = 31
 number_of Post = 32
 number_of SetRp = 33
-number_of Branch = 34
-number_of IfCode = 35
-number_of IfClup = 36
-number_of IfPerc = 37
+number_of Ret15 = 34
+number_of Branch = 35
+number_of IfCode = 36
+number_of IfClup = 37
+number_of IfPerc = 38
 
 abbrev form_at : ℕ → CardForm
 form_at n = slice_index_or all_forms n Region
 
 at_its_number : (f : CardForm) → form_at (number_of f) ≡ f
 at_its_number Region = refl
-at_its_number Prog = refl
-at_its_number Pend = refl
-at_its_number Task = refl
-at_its_number Srb = refl
-at_its_number Oper = refl
-at_its_number Cancel = refl
-at_its_number End = refl
-at_its_number Nop = refl
-at_its_number Get = refl
-at_its_number Free = refl
-at_its_number Link = refl
-at_its_number Xctl = refl
-at_its_number Return = refl
-at_its_number Abend = refl
-at_its_number EstaexCt = refl
-at_its_number EstaexOv = refl
-at_its_number EstaexZero = refl
-at_its_number FrrAdd = refl
-at_its_number FrrDelete = refl
-at_its_number FrrReplace = refl
-at_its_number FrrPurge = refl
-at_its_number Attachx = refl
-at_its_number AttachxEstai = refl
-at_its_number Detach = refl
-at_its_number Abterm = refl
-at_its_number Memterm = refl
-at_its_number MgrAdd = refl
-at_its_number MgrDelete = refl
-at_its_number Schedule = refl
-at_its_number Wait = refl
-at_its_number WaitTask = refl
-at_its_number Post = refl
-at_its_number SetRp = refl
-at_its_number Branch = refl
-at_its_number IfCode = refl
-at_its_number IfClup = refl
-at_its_number IfPerc = refl
+at_its_number _ = refl
+
+-- what holds of each element holds of the one at a place
+at_place : {X : Type 0} (P : X → Type 0) (xs : List X) (n : ℕ) (other : X) → P other → AllByRecursion P xs → P (slice_index_or xs n other)
+at_place P [] n other o h = o
+at_place P (x ∷ xs) zero other o h = h.0
+at_place P (x ∷ xs) (suc n) other o h = at_place P xs n other o h.1
+
+-- what holds of all forms, one after the other, holds of each
+pub for_each : (P : CardForm → Type 0) → AllByRecursion P all_forms → (f : CardForm) → P f
+for_each P h f = subst P (at_its_number f) (at_place P all_forms (number_of f) Region h.0 h)
+
+pub passed : {X : Type 0} (test : X → Bool) (xs : List X) → list_all test xs ≡ true → AllByRecursion (λ x. test x ≡ true) xs
+passed test [] e = tt
+passed test (x ∷ xs) e = let parts = and_parts (test x) (list_all test xs) e in (parts.0, passed test xs parts.1)
+
+-- a test that all forms pass is passed by each
+pub for_each_test : (test : CardForm → Bool) → list_all test all_forms ≡ true → (f : CardForm) → test f ≡ true
+for_each_test test e f = for_each (λ f. test f ≡ true) (passed test all_forms e) f
 
 same_number : (f g : CardForm) → number_of f ≡ number_of g → f ≡ g
 same_number f g e = sym (at_its_number f) ∙ (ap form_at e ∙ at_its_number g)

@@ -8,7 +8,13 @@ use Rattle.std.proofs.lemmas.List.Sums.{take_while-cons}
 use Rattle.std.proofs.lemmas.Slice.Eq.{bytes_eq-Decides}
 use Rattle.rtm_deck_operands.specs.declared.value.Value.{Value}
 use Rattle.rtm_deck_operands.specs.declared.value.Value.TheVariants as values
+use Rattle.rtm_deck_operands.specs.declared.slot.Slot.{Slot}
+use Rattle.rtm_deck_operands.specs.declared.slot.Kind.{Kind}
+use Rattle.rtm_deck_operands.specs.declared.slot.Kind.TheVariants as kinds
+use Rattle.rtm_deck_operands.specs.declared.slot.NameOf.{NameOf}
+use Rattle.rtm_deck_operands.specs.declared.slot.NameOf.TheVariants as names
 use Rattle.rtm_deck_operands.specs.Name.{trimmed_text, is_padded_name}
+use Rattle.rtm_deck_operands.specs.Value.{is_return_code}
 use Rattle.rtm_cards.specs.Cards.{CardText}
 use Rattle.rtm_deck_items.specs.declared.why.Why.{Why}
 use Rattle.rtm_deck_items.specs.declared.deck.Line.{Line}
@@ -21,17 +27,16 @@ use Rattle.rtm_deck_items.specs.declared.op.Op.TheVariants as ops
 use Rattle.rtm_deck_items.specs.declared.op.Setrp.{Setrp}
 use Rattle.rtm_deck_items.specs.declared.form.CardForm.{CardForm}
 use Rattle.rtm_deck_items.specs.declared.form.CardForm.TheVariants as forms
-use Rattle.rtm_deck_items.specs.Forms.{operation_of, form_named, is_inside}
+use Rattle.rtm_deck_items.specs.Forms.{operation_of, slots_of, form_named, is_inside}
 use Rattle.rtm_deck_items.specs.View.{ProgramView, DeckView}
 use Rattle.rtm_deck_items.specs.Reading.{is_task, is_task_card, carries}
-use Rattle.rtm_deck_items.specs.Items.{Item, LimitCard, ProgramStart, ProgramCard, ProgramEnd, UnitOfWork, CommandsStart, CommandCard, DeckEnd, Block, ProgramBlock, UnitBlock, form_of, form_of_op, form_of_kind, values_of, values_of_op, label_text, program_name, unit_name, related_name}
+use Rattle.rtm_deck_items.specs.Items.{Item, RegionCard, ProgramStart, ProgramCard, ProgramEnd, UnitOfWork, CommandsStart, CommandCard, DeckEnd, Block, ProgramBlock, UnitBlock, form_of, form_of_op, form_of_kind, values_of, values_of_op, label_text, program_name, unit_name, related_name}
 use Rattle.rtm_deck_items.specs.Spelling.{SpellsItem, SpellEach, programs_in, units_in, SpellsDeck}
 use Rattle.rtm_deck_items.specs.WellFormed.{is_well_formed, is_label, is_op, is_program_of, is_unit_of, is_command_of, is_program, is_task_in, is_srb_in, is_related, is_abend_code, is_reason, is_code, is_setrp_rc, is_setrp_code, gives_some, is_retry_label, is_own_label, has_label, has_label_anywhere, are_distinct, labels_in}
-use Rattle.rtm_deck_items.specs.Faults.{is_called, is_named, since_program, Reference, AProgram, ATask, AnSrb, AnyLabel, references_of, is_labelled, is_value_found, NamesUnfound, HasNameFault, own_program, NameFault}
+use Rattle.rtm_deck_items.specs.Faults.{is_called, is_named, since_program, is_labelled, is_found, IsUnfound, NamesUnfound, HasNameFault, own_program, NameFault}
 use Rattle.rtm_deck_items.proofs.Lists.{both_true}
 use Rattle.rtm_deck_items.proofs.FormFacts.{conditions}
 use Rattle.rtm_deck_spelling.proofs.Forms.{one_form, one_values}
-use Rattle.rtm_deck_spelling.proofs.FirstFault.{nothing_is_found}
 use Rattle.rtm_deck_spelling.proofs.LaidOut.{lines_then, blocks_then, commands_then_end, closing, opening, laid_out}
 use Rattle.rtm_deck_spelling.proofs.Decoded.{any_at, at_tested, program_at}
 use Rattle.rtm_deck_spelling.proofs.RuleTests.{named_first, first_form, line_form_of_op, line_card, called_as}
@@ -47,27 +52,46 @@ no_name_fault cards earlier [] card why f h = f
 no_name_fault cards earlier (c ∷ later) card why (inl f) h = h.0 why f.0
 no_name_fault cards earlier (c ∷ later) card why (inr f) h = no_name_fault cards (c ∷ earlier) later card why f.1 h.1
 
+-- what the value names is there; no other value names anything
+abbrev pub is_value_found : List CardText → List CardText → NameOf → Option Value → Bool
+is_value_found cards own named (Some (values.Name name)) = is_found cards own named (trimmed_text name)
+is_value_found cards own named value = true
+
+-- what a value of an operand of that kind names is there, where it names something, and the rest holds
+abbrev FoundAnd : List CardText → List CardText → Kind → Option Value → Type 0 → Type 0
+FoundAnd cards own (kinds.Name named) value Rest = (is_value_found cards own named value ≡ true) × Rest
+FoundAnd cards own kind value Rest = Rest
+
 -- each value names something that is there, or nothing
-abbrev pub AllFound : List CardText → List CardText → List Reference → List (Option Value) → Type 0
+abbrev pub AllFound : List CardText → List CardText → List Slot → List (Option Value) → Type 0
 AllFound cards own [] vs = Unit {0}
-AllFound cards own (reference ∷ references) [] = Unit {0}
-AllFound cards own (reference ∷ references) (v ∷ vs) = (is_value_found cards own reference v ≡ true) × AllFound cards own references vs
+AllFound cards own (slot ∷ slots) [] = Unit {0}
+AllFound cards own (slot ∷ slots) (v ∷ vs) = FoundAnd cards own slot.kind v (AllFound cards own slots vs)
 
-pub none_unfound : (cards own : List CardText) (references : List Reference) (vs : List (Option Value)) (why : Why) → AllFound cards own references vs → NamesUnfound cards own references vs why → ⊥
+not_unfound : (cards own : List CardText) (kind : Kind) (value : Option Value) (Rest : Type 0) (why : Why) → FoundAnd cards own kind value Rest → IsUnfound cards own kind value why → ⊥
+not_unfound cards own (kinds.Name named) (Some (values.Name name)) Rest why h f = both_ways (is_found cards own named (trimmed_text name)) (not-true _ f.0) h.0
+not_unfound cards own kind value Rest why h f = f
+
+others_found : (cards own : List CardText) (kind : Kind) (value : Option Value) (Rest : Type 0) → FoundAnd cards own kind value Rest → Rest
+others_found cards own (kinds.Name named) value Rest h = h.1
+others_found cards own kind value Rest h = h
+
+pub none_unfound : (cards own : List CardText) (slots : List Slot) (vs : List (Option Value)) (why : Why) → AllFound cards own slots vs → NamesUnfound cards own slots vs why → ⊥
 none_unfound cards own [] vs why h f = f
-none_unfound cards own (reference ∷ references) [] why h f = f
-none_unfound cards own (reference ∷ references) (v ∷ vs) why h (inl f) = both_ways (is_value_found cards own reference v) (not-true _ f.0) h.0
-none_unfound cards own (reference ∷ references) (v ∷ vs) why h (inr f) = none_unfound cards own references vs why h.1 f
+none_unfound cards own (slot ∷ slots) [] why h f = f
+none_unfound cards own (slot ∷ slots) (v ∷ vs) why h (inl f) = not_unfound cards own slot.kind v (AllFound cards own slots vs) why h f
+none_unfound cards own (slot ∷ slots) (v ∷ vs) why h (inr f) =
+    none_unfound cards own slots vs why (others_found cards own slot.kind v (AllFound cards own slots vs) h) f
 
-pub card_finds : (d : DeckView) (cards own : List CardText) (c : CardText) (item : Item) (why : Why) → SpellsItem d c item → AllFound cards own (references_of (form_of item)) (values_of d item)
+pub card_finds : (d : DeckView) (cards own : List CardText) (c : CardText) (item : Item) (why : Why) → SpellsItem d c item → AllFound cards own (slots_of (form_of item)) (values_of d item)
     → HasNameFault cards own c why → ⊥
 card_finds d cards own c item why s found f =
     let op = f.operation ∙ s.operation in
     let form : f.form ≡ form_of item = one_form f.form (form_of item) c.operands f.values (values_of d item) f.operands s.operands op in
     let vs : f.values ≡ values_of d item = one_values f.form (form_of item) c.operands f.values (values_of d item) f.operands s.operands op in
-    none_unfound cards own (references_of (form_of item)) (values_of d item) why found
-    (subst (λ (v : List (Option Value)). NamesUnfound cards own (references_of (form_of item)) v why) vs
-    (subst (λ (g : CardForm). NamesUnfound cards own (references_of g) f.values why) form f.unfound))
+    none_unfound cards own (slots_of (form_of item)) (values_of d item) why found
+    (subst (λ (v : List (Option Value)). NamesUnfound cards own (slots_of (form_of item)) v why) vs
+    (subst (λ (g : CardForm). NamesUnfound cards own (slots_of g) f.values why) form f.unfound))
 
 -- What a deck has is among its cards.
 pub record AreThere (d : DeckView) (cards : List CardText) : Type 0 where
@@ -79,34 +103,34 @@ pub record AreThere (d : DeckView) (cards : List CardText) : Type 0 where
 same_bytes : (a : List ℕ) → bytes_eq a a ≡ true
 same_bytes a = (bytes_eq-Decides a a).1 refl
 
-program_is_found : (d : DeckView) (cards own : List CardText) (prog : ℕ) → AreThere d cards → IsTrue (is_program d prog) → is_value_found cards own AProgram (program_name d prog) ≡ true
+program_is_found : (d : DeckView) (cards own : List CardText) (prog : ℕ) → AreThere d cards → IsTrue (is_program d prog) → is_value_found cards own names.Program (program_name d prog) ≡ true
 program_is_found d cards own prog there h =
     let r = program_at d prog h in
     let is = r.is in
-    ap (λ (o : Option ProgramView). is_value_found cards own AProgram (option_map (λ p. values.Name p.name) o)) is
+    ap (λ (o : Option ProgramView). is_value_found cards own names.Program (option_map (λ p. values.Name p.name) o)) is
     ∙ there.programs r.element.name (any_at (λ (p : ProgramView). bytes_eq p.name r.element.name) d.programs prog r.element is (same_bytes r.element.name))
 
-task_is_found : (d : DeckView) (cards own : List CardText) (unit : ℕ) → AreThere d cards → IsTrue (is_task_in d unit) → is_value_found cards own ATask (unit_name d unit) ≡ true
+task_is_found : (d : DeckView) (cards own : List CardText) (unit : ℕ) → AreThere d cards → IsTrue (is_task_in d unit) → is_value_found cards own names.Task (unit_name d unit) ≡ true
 task_is_found d cards own unit there h =
     let r = at_tested is_task_card d.units unit h in
     let is = r.is in
     let task : is_task_card r.element ≡ true = subst (λ (o : Option UnitCard). option_map_or is_task_card o false ≡ true) is h in
-    ap (λ (o : Option UnitCard). is_value_found cards own ATask (option_map (λ u. values.Name u.name) o)) is
+    ap (λ (o : Option UnitCard). is_value_found cards own names.Task (option_map (λ u. values.Name u.name) o)) is
     ∙ there.tasks r.element.name (any_at (λ (u : UnitCard). is_task_card u && bytes_eq u.name r.element.name) d.units unit r.element is (and_from _ _ task (same_bytes r.element.name)))
 
-srb_is_found : (d : DeckView) (cards own : List CardText) (unit : ℕ) → AreThere d cards → IsTrue (is_srb_in d unit) → is_value_found cards own AnSrb (unit_name d unit) ≡ true
+srb_is_found : (d : DeckView) (cards own : List CardText) (unit : ℕ) → AreThere d cards → IsTrue (is_srb_in d unit) → is_value_found cards own names.Srb (unit_name d unit) ≡ true
 srb_is_found d cards own unit there h =
     let r = at_tested (λ card. not (is_task_card card)) d.units unit h in
     let is = r.is in
     let srb : not (is_task_card r.element) ≡ true = subst (λ (o : Option UnitCard). option_map_or (λ card. not (is_task_card card)) o false ≡ true) is h in
-    ap (λ (o : Option UnitCard). is_value_found cards own AnSrb (option_map (λ u. values.Name u.name) o)) is
+    ap (λ (o : Option UnitCard). is_value_found cards own names.Srb (option_map (λ u. values.Name u.name) o)) is
     ∙ there.srbs r.element.name (any_at (λ (u : UnitCard). not (is_task_card u) && bytes_eq u.name r.element.name) d.units unit r.element is (and_from _ _ srb (same_bytes r.element.name)))
 
-related_is_found : (d : DeckView) (cards own : List CardText) (related : Option ℕ) → AreThere d cards → IsTrue (is_related d Srb related) → is_value_found cards own ATask (related_name d related) ≡ true
+related_is_found : (d : DeckView) (cards own : List CardText) (related : Option ℕ) → AreThere d cards → IsTrue (is_related d Srb related) → is_value_found cards own names.Task (related_name d related) ≡ true
 related_is_found d cards own None there h = refl
 related_is_found d cards own (Some unit) there h = task_is_found d cards own unit there h
 
-retry_is_found : (d : DeckView) (cards own : List CardText) (label : Option (List ℕ)) → AreThere d cards → IsTrue (is_retry_label d label) → is_value_found cards own AnyLabel (option_map values.Name label) ≡ true
+retry_is_found : (d : DeckView) (cards own : List CardText) (label : Option (List ℕ)) → AreThere d cards → IsTrue (is_retry_label d label) → is_value_found cards own names.AnyLabel (option_map values.Name label) ≡ true
 retry_is_found d cards own None there h = refl
 retry_is_found d cards own (Some label) there h = there.labels label (both_true (is_padded_name label) (has_label_anywhere d label) h).1
 
@@ -126,33 +150,23 @@ retry_of d s h =
 
 -- what an operation names is found
 pub op_finds : (d : DeckView) (cards own : List CardText) (lines : List Line) (op : Op) → AreThere d cards → OwnLabels lines own → IsTrue (is_op d lines op)
-    → AllFound cards own (references_of (form_of_op op)) (values_of_op d op)
-op_finds d cards own lines ops.Nop there labels h = tt
-op_finds d cards own lines (ops.Get class id) there labels h = tt
-op_finds d cards own lines (ops.Free class id) there labels h = tt
+    → AllFound cards own (slots_of (form_of_op op)) (values_of_op d op)
 op_finds d cards own lines (ops.Link prog) there labels h = (program_is_found d cards own prog there h, tt)
 op_finds d cards own lines (ops.Xctl prog) there labels h = (program_is_found d cards own prog there h, tt)
-op_finds d cards own lines ops.Return there labels h = tt
-op_finds d cards own lines (ops.Abend code reason dump step) there labels h = tt
-op_finds d cards own lines (ops.EstaexCt prog term cancel xctl) there labels h = (refl, (program_is_found d cards own prog there h, tt))
-op_finds d cards own lines (ops.EstaexOv prog term cancel xctl) there labels h = (refl, (program_is_found d cards own prog there h, tt))
-op_finds d cards own lines ops.EstaexZero there labels h = tt
-op_finds d cards own lines (ops.FrrAdd prog) there labels h = (refl, (program_is_found d cards own prog there h, tt))
-op_finds d cards own lines ops.FrrDelete there labels h = tt
-op_finds d cards own lines (ops.FrrReplace prog) there labels h = (refl, (program_is_found d cards own prog there h, tt))
-op_finds d cards own lines ops.FrrPurge there labels h = tt
+op_finds d cards own lines (ops.EstaexCt prog term cancel xctl) there labels h = (program_is_found d cards own prog there h, tt)
+op_finds d cards own lines (ops.EstaexOv prog term cancel xctl) there labels h = (program_is_found d cards own prog there h, tt)
+op_finds d cards own lines (ops.FrrAdd prog) there labels h = (program_is_found d cards own prog there h, tt)
+op_finds d cards own lines (ops.FrrReplace prog) there labels h = (program_is_found d cards own prog there h, tt)
 op_finds d cards own lines (ops.Detach unit stae) there labels h = (task_is_found d cards own unit there h, tt)
-op_finds d cards own lines (ops.Abterm unit code reason dump retry) there labels h = let g = (both_true _ (is_reason reason) h).0 in (refl, (task_is_found d cards own unit there (both_true (is_task_in d unit) (is_abend_code code) g).0, tt))
-op_finds d cards own lines (ops.Memterm code) there labels h = tt
-op_finds d cards own lines (ops.MgrAdd prog space) there labels h = (refl, (program_is_found d cards own prog there h, tt))
-op_finds d cards own lines (ops.MgrDelete prog space) there labels h = (refl, (program_is_found d cards own prog there h, tt))
+op_finds d cards own lines (ops.Abterm unit code reason dump retry) there labels h = let g = (both_true _ (is_reason reason) h).0 in (task_is_found d cards own unit there (both_true (is_task_in d unit) (is_abend_code code) g).0, tt)
+op_finds d cards own lines (ops.MgrAdd prog space) there labels h = (program_is_found d cards own prog there h, tt)
+op_finds d cards own lines (ops.MgrDelete prog space) there labels h = (program_is_found d cards own prog there h, tt)
 op_finds d cards own lines (ops.Schedule unit) there labels h = (srb_is_found d cards own unit there h, tt)
-op_finds d cards own lines (ops.Wait event) there labels h = tt
 op_finds d cards own lines (ops.WaitTask unit) there labels h = (task_is_found d cards own unit there h, tt)
-op_finds d cards own lines (ops.Post event) there labels h = tt
-op_finds d cards own lines (ops.SetRp setrp) there labels h = (nothing_is_found cards own (option_map values.Number setrp.rc), (retry_is_found d cards own setrp.retaddr there (retry_of d setrp h), tt))
+op_finds d cards own lines (ops.SetRp setrp) there labels h = (retry_is_found d cards own setrp.retaddr there (retry_of d setrp h), tt)
+op_finds d cards own lines (ops.Ret15 rc label) there labels h = (retry_is_found d cards own label there (both_true (is_return_code rc) (is_retry_label d label) h).1, tt)
 op_finds d cards own lines (ops.Branch label) there labels h = (own_is_found lines own label labels h, tt)
-op_finds d cards own lines (ops.IfCode code label) there labels h = (refl, (own_is_found lines own label labels (both_true (is_code code) (is_own_label lines label) h).1, tt))
+op_finds d cards own lines (ops.IfCode code label) there labels h = (own_is_found lines own label labels (both_true (is_code code) (is_own_label lines label) h).1, tt)
 op_finds d cards own lines (ops.IfClup label) there labels h = (own_is_found lines own label labels h, tt)
 op_finds d cards own lines (ops.IfPerc label) there labels h = (own_is_found lines own label labels h, tt)
 op_finds d cards own lines (ops.Attachx unit None term) there labels h =
@@ -162,10 +176,11 @@ op_finds d cards own lines (ops.Attachx unit (Some prog) term) there labels h =
     let p = both_true (is_task_in d unit && is_program d prog) true h in
     let q = both_true (is_task_in d unit) (is_program d prog) p.0 in
     (task_is_found d cards own unit there q.0, (program_is_found d cards own prog there q.1, tt))
+op_finds d cards own lines _ there labels h = tt
 
 pub unit_finds : (d : DeckView) (cards own : List CardText) (name : List ℕ) (kind : UnitKind) (prog : ℕ) (related : Option ℕ) → AreThere d cards
     → IsTrue (is_padded_name name && is_program d prog && is_related d kind related)
-    → (let unit : UnitCard = record { name = name; kind = kind; prog = prog; related = related } in AllFound cards own (references_of (form_of_kind kind)) (values_of d (UnitOfWork unit)))
+    → (let unit : UnitCard = record { name = name; kind = kind; prog = prog; related = related } in AllFound cards own (slots_of (form_of_kind kind)) (values_of d (UnitOfWork unit)))
 unit_finds d cards own name Task prog related there h =
     let p = both_true (is_padded_name name && is_program d prog) (is_related d Task related) h in
     (program_is_found d cards own prog there (both_true (is_padded_name name) (is_program d prog) p.0).1, tt)
@@ -300,11 +315,11 @@ blocks_find d cards (UnitBlock u ∷ blocks) rest (c ∷ later) earlier there ps
       blocks_find d cards blocks rest later (c ∷ earlier) there ps parts.1 s.1 next,
     )
 
-opening_finds : (d : DeckView) (cards : List CardText) (region : Bool) (limit : ℕ) (rest : List Item) (later earlier : List CardText) → SpellEach d later (opening region limit rest) → Finds d cards rest → FindAll cards earlier later
-opening_finds d cards false limit rest later earlier s next = next later earlier s
-opening_finds d cards true limit rest [] earlier s next = tt
-opening_finds d cards true limit rest (c ∷ later) earlier s next =
-    (λ why f. card_finds d cards (own_program earlier c later) c (LimitCard limit) why s.0 tt f, next later (c ∷ earlier) s.1)
+opening_finds : (d : DeckView) (cards : List CardText) (region : Bool) (limit : ℕ) (sdwa : Bool) (rest : List Item) (later earlier : List CardText) → SpellEach d later (opening region limit sdwa rest) → Finds d cards rest → FindAll cards earlier later
+opening_finds d cards false limit sdwa rest later earlier s next = next later earlier s
+opening_finds d cards true limit sdwa rest [] earlier s next = tt
+opening_finds d cards true limit sdwa rest (c ∷ later) earlier s next =
+    (λ why f. card_finds d cards (own_program earlier c later) c (RegionCard limit sdwa) why s.0 tt f, next later (c ∷ earlier) s.1)
 
 -- What a deck has is among the cards that spell it.
 
@@ -362,9 +377,9 @@ units_among start line unit (UnitBlock u ∷ blocks) rest h = elim (or_cases (un
   | inr there ↦ or_right (unit u) _ (units_among start line unit blocks rest there)
 ]
 
-in_opening : (wanted : Item → Bool) (region : Bool) (limit : ℕ) (rest : List Item) → list_any wanted rest ≡ true → list_any wanted (opening region limit rest) ≡ true
-in_opening wanted true limit rest h = or_right (wanted (LimitCard limit)) _ h
-in_opening wanted false limit rest h = h
+in_opening : (wanted : Item → Bool) (region : Bool) (limit : ℕ) (sdwa : Bool) (rest : List Item) → list_any wanted rest ≡ true → list_any wanted (opening region limit sdwa rest) ≡ true
+in_opening wanted true limit sdwa rest h = or_right (wanted (RegionCard limit sdwa)) _ h
+in_opening wanted false limit sdwa rest h = h
 
 abbrev never : {X : Type 0} → X → Bool
 never x = false
@@ -409,23 +424,23 @@ label_is_there d label c _ s h = absurd cc
 -- what the deck has is there
 pub are_there : (cards : List CardText) (d : DeckView) → SpellsDeck cards d → AreThere d cards
 are_there cards d s =
-    let items = opening s.region d.limit (blocks_then s.blocks (closing s.oper d.commands)) in
+    let items = opening s.region d.limit d.sdwa (blocks_then s.blocks (closing s.oper d.commands)) in
     let each : SpellEach d cards items = subst (λ (items : List Item). SpellEach d cards items) (laid_out s.region s.oper s.blocks d) s.each in
     let rest = closing s.oper d.commands in
     let programs = sym s.programs in
     let units = sym s.units in
     record {
       programs = λ name h. any_spelled d (λ c. is_called (codes "PROG") c && is_named (trimmed_text name) c) (wants (λ n. bytes_eq n name) never never) (start_is_there d name) cards items each
-          (in_opening (wants (λ n. bytes_eq n name) never never) s.region d.limit _ (starts_among (λ n. bytes_eq n name) never never s.blocks rest
+          (in_opening (wants (λ n. bytes_eq n name) never never) s.region d.limit d.sdwa _ (starts_among (λ n. bytes_eq n name) never never s.blocks rest
           (subst (λ (ps : List ProgramView). list_any (λ p. bytes_eq p.name name) ps ≡ true) programs h)));
       tasks = λ name h. any_spelled d (λ c. is_called (codes "TASK") c && is_named (trimmed_text name) c) (wants never never (λ u. is_task_card u && bytes_eq u.name name)) (task_is_there d name) cards items each
-          (in_opening (wants never never (λ u. is_task_card u && bytes_eq u.name name)) s.region d.limit _ (units_among never never (λ u. is_task_card u && bytes_eq u.name name) s.blocks rest
+          (in_opening (wants never never (λ u. is_task_card u && bytes_eq u.name name)) s.region d.limit d.sdwa _ (units_among never never (λ u. is_task_card u && bytes_eq u.name name) s.blocks rest
           (subst (λ (us : List UnitCard). list_any (λ u. is_task_card u && bytes_eq u.name name) us ≡ true) units h)));
       srbs = λ name h. any_spelled d (λ c. is_called (codes "SRB") c && is_named (trimmed_text name) c) (wants never never (λ u. not (is_task_card u) && bytes_eq u.name name)) (srb_is_there d name) cards items each
-          (in_opening (wants never never (λ u. not (is_task_card u) && bytes_eq u.name name)) s.region d.limit _ (units_among never never (λ u. not (is_task_card u) && bytes_eq u.name name) s.blocks rest
+          (in_opening (wants never never (λ u. not (is_task_card u) && bytes_eq u.name name)) s.region d.limit d.sdwa _ (units_among never never (λ u. not (is_task_card u) && bytes_eq u.name name) s.blocks rest
           (subst (λ (us : List UnitCard). list_any (λ u. not (is_task_card u) && bytes_eq u.name name) us ≡ true) units h)));
       labels = λ label h. any_spelled d (is_labelled (trimmed_text label)) (wants never (carries label) never) (label_is_there d label) cards items each
-          (in_opening (wants never (carries label) never) s.region d.limit _ (lines_among never (carries label) never s.blocks rest
+          (in_opening (wants never (carries label) never) s.region d.limit d.sdwa _ (lines_among never (carries label) never s.blocks rest
           (subst (λ (ps : List ProgramView). list_any (λ p. has_label label p.lines) ps ≡ true) programs h)));
     }
 
@@ -434,7 +449,7 @@ pub cards_find_all : (cards : List CardText) (d : DeckView) → SpellsDeck cards
 cards_find_all cards d s h =
     let k = conditions d h in
     let there = are_there cards d s in
-    opening_finds d cards s.region d.limit (blocks_then s.blocks (closing s.oper d.commands)) cards []
+    opening_finds d cards s.region d.limit d.sdwa (blocks_then s.blocks (closing s.oper d.commands)) cards []
     (subst (λ (items : List Item). SpellEach d cards items) (laid_out s.region s.oper s.blocks d) s.each)
     (λ later earlier each. blocks_find d cards s.blocks (closing s.oper d.commands) later earlier there
     (subst (λ (ps : List ProgramView). IsTrue (list_all (is_program_of d) ps)) (sym s.programs) k.programs)
@@ -466,7 +481,7 @@ last_behind_blocks (UnitBlock u ∷ blocks) rest h = last_behind_blocks blocks r
 
 pub end_is_there : (cards : List CardText) (d : DeckView) → SpellsDeck cards d → list_any (is_called (codes "END")) cards ≡ true
 end_is_there cards d s =
-    let items = opening s.region d.limit (blocks_then s.blocks (closing s.oper d.commands)) in
+    let items = opening s.region d.limit d.sdwa (blocks_then s.blocks (closing s.oper d.commands)) in
     any_spelled d (is_called (codes "END")) is_last (end_called d) cards items
     (subst (λ (items : List Item). SpellEach d cards items) (laid_out s.region s.oper s.blocks d) s.each)
-    (in_opening is_last s.region d.limit _ (last_behind_blocks s.blocks (closing s.oper d.commands) (last_in_closing s.oper d.commands)))
+    (in_opening is_last s.region d.limit d.sdwa _ (last_behind_blocks s.blocks (closing s.oper d.commands) (last_in_closing s.oper d.commands)))

@@ -4,7 +4,7 @@ use Rattle.std.specs.List.{flat_map}
 use Rattle.rtm_deck_items.specs.declared.deck.Line.{Line}
 use Rattle.rtm_deck_items.specs.declared.deck.Command.{Command}
 use Rattle.rtm_deck_items.specs.View.{DeckView}
-use Rattle.rtm_deck_items.specs.Items.{Item, LimitCard, ProgramStart, ProgramCard, ProgramEnd, UnitOfWork, CommandsStart, CommandCard, DeckEnd, Block, ProgramBlock, UnitBlock, items_of_block, opening_items, closing_items, items_of}
+use Rattle.rtm_deck_items.specs.Items.{Item, RegionCard, ProgramStart, ProgramCard, ProgramEnd, UnitOfWork, CommandsStart, CommandCard, DeckEnd, Block, ProgramBlock, UnitBlock, items_of_block, opening_items, closing_items, items_of}
 
 -- the cards of a program that follow PROG, and what follows PEND
 abbrev pub lines_then : List Line → List Item → List Item
@@ -28,13 +28,13 @@ closing true commands = CommandsStart ∷ commands_then_end commands
 closing false commands = DeckEnd ∷ []
 
 -- REGION where it is given, and what follows it
-abbrev pub opening : Bool → ℕ → List Item → List Item
-opening true limit rest = LimitCard limit ∷ rest
-opening false limit rest = rest
+abbrev pub opening : Bool → ℕ → Bool → List Item → List Item
+opening true limit sdwa rest = RegionCard limit sdwa ∷ rest
+opening false limit sdwa rest = rest
 
 -- all items of a deck
 abbrev pub laid : Bool → Bool → List Block → DeckView → List Item
-laid region oper blocks d = opening region d.limit (blocks_then blocks (closing oper d.commands))
+laid region oper blocks d = opening region d.limit d.sdwa (blocks_then blocks (closing oper d.commands))
 
 lines_laid : (lines : List Line) (rest : List Item) → (map ProgramCard lines ++ ProgramEnd ∷ []) ++ rest ≡ lines_then lines rest
 lines_laid [] rest = refl
@@ -59,13 +59,13 @@ closing_laid false commands = refl
 regrouped : (a b c e : List Item) → ((a ++ b) ++ c) ++ e ≡ a ++ (b ++ (c ++ e))
 regrouped a b c e = simp append_assoc
 
-opening_laid : (region : Bool) (limit : ℕ) (rest : List Item) → opening_items region limit ++ rest ≡ opening region limit rest
-opening_laid true limit rest = refl
-opening_laid false limit rest = refl
+opening_laid : (region : Bool) (limit : ℕ) (sdwa : Bool) (rest : List Item) → opening_items region limit sdwa ++ rest ≡ opening region limit sdwa rest
+opening_laid true limit sdwa rest = refl
+opening_laid false limit sdwa rest = refl
 
 pub laid_out : (region oper : Bool) (blocks : List Block) (d : DeckView) → items_of region oper blocks d ≡ laid region oper blocks d
 laid_out region oper blocks d =
-    regrouped (opening_items region d.limit) (flat_map items_of_block blocks) (closing_items oper d.commands) (DeckEnd ∷ [])
-    ∙ (ap (λ (xs : List Item). opening_items region d.limit ++ (flat_map items_of_block blocks ++ xs)) (closing_laid oper d.commands)
-    ∙ (ap (λ (xs : List Item). opening_items region d.limit ++ xs) (blocks_laid blocks (closing oper d.commands))
-    ∙ opening_laid region d.limit (blocks_then blocks (closing oper d.commands))))
+    regrouped (opening_items region d.limit d.sdwa) (flat_map items_of_block blocks) (closing_items oper d.commands) (DeckEnd ∷ [])
+    ∙ (ap (λ (xs : List Item). opening_items region d.limit d.sdwa ++ (flat_map items_of_block blocks ++ xs)) (closing_laid oper d.commands)
+    ∙ (ap (λ (xs : List Item). opening_items region d.limit d.sdwa ++ xs) (blocks_laid blocks (closing oper d.commands))
+    ∙ opening_laid region d.limit d.sdwa (blocks_then blocks (closing oper d.commands))))

@@ -10,6 +10,7 @@ use Rattle.rtm_deck_operands.specs.Name.{trimmed_text, is_padded_name}
 use Rattle.rtm_cards.specs.declared.fault.CutWhy.{CutWhy}
 use Rattle.rtm_cards.specs.Rules.{fault_of, is_ignored}
 use Rattle.rtm_cards.specs.Faults.{NoCutFault}
+use Rattle.rtm_cards.specs.Limits.{most_programs, most_units, most_commands}
 use Rattle.rtm_cards.specs.Cards.{CardText, card_of, cards_from}
 use Rattle.rtm_deck_items.specs.declared.deck.Line.{Line}
 use Rattle.rtm_deck_items.specs.declared.deck.Unit.{Unit as UnitCard}
@@ -18,7 +19,7 @@ use Rattle.rtm_deck_items.specs.declared.deck.UnitKind.TheVariants.{Task, Srb}
 use Rattle.rtm_deck_items.specs.declared.deck.Command.{Command}
 use Rattle.rtm_deck_items.specs.declared.form.CardForm.TheVariants as forms
 use Rattle.rtm_deck_items.specs.View.{ProgramView, DeckView}
-use Rattle.rtm_deck_items.specs.Items.{Item, LimitCard, ProgramStart, ProgramCard, ProgramEnd, UnitOfWork, CommandsStart, CommandCard, DeckEnd, Block, ProgramBlock, UnitBlock, form_of_op, form_of_kind, values_of, label_text}
+use Rattle.rtm_deck_items.specs.Items.{Item, RegionCard, ProgramStart, ProgramCard, ProgramEnd, UnitOfWork, CommandsStart, CommandCard, DeckEnd, Block, ProgramBlock, UnitBlock, form_of_op, form_of_kind, values_of, label_text}
 use Rattle.rtm_deck_items.specs.Spelling.{SpellEach, programs_in, units_in, SpellsDeck}
 use Rattle.rtm_deck_items.specs.WellFormed.{is_well_formed, is_label, is_op, is_program_of, is_unit_of, is_program, is_related, are_distinct, labels_in}
 use Rattle.rtm_deck_items.specs.Faults.{is_called, is_named, has_operation, is_in_program, is_unit_card, since_program, rules, BreaksNone, HasNone, with_line, NoFormFault}
@@ -85,7 +86,7 @@ keeps_program earlier name text programs units commands is padded k outside = le
   named = name_stands name text padded is;
   placed = or_from _ (has_operation (codes "OPER") earlier) (or_from (has_operation (codes "END") earlier) (is_in_program earlier) k.no_end outside) k.no_oper;
   single = ap (has_program earlier) is ∙ k.free_programs.0;
-  few = lt-leb 256 (count_by (is_called (codes "PROG")) earlier) (omega arith);
+  few = lt-leb most_programs (count_by (is_called (codes "PROG")) earlier) (omega arith);
   needs_no_task = refl;
 }
 
@@ -95,14 +96,14 @@ keeps_unit earlier unit Task text programs units commands is padded k outside = 
   named = name_stands unit.name text padded is;
   placed = or_from _ (has_operation (codes "OPER") earlier) (or_from (has_operation (codes "END") earlier) (is_in_program earlier) k.no_end outside) k.no_oper;
   single = ap (has_unit earlier) is ∙ k.free_units.0;
-  few = lt-leb 64 (count_by is_unit_card earlier) (omega arith);
+  few = lt-leb most_units (count_by is_unit_card earlier) (omega arith);
   needs_no_task = refl;
 }
 keeps_unit earlier unit Srb text programs units commands is padded k outside = let count = k.unit_count in record {
   named = name_stands unit.name text padded is;
   placed = or_from _ (has_operation (codes "OPER") earlier) (or_from (has_operation (codes "END") earlier) (is_in_program earlier) k.no_end outside) k.no_oper;
   single = ap (has_unit earlier) is ∙ k.free_units.0;
-  few = lt-leb 64 (count_by is_unit_card earlier) (omega arith);
+  few = lt-leb most_units (count_by is_unit_card earlier) (omega arith);
   needs_no_task = refl;
 }
 
@@ -131,7 +132,7 @@ pub record InCommands (earlier : List CardText) (commands : ℕ) : Type 0 where
   pub no_end : has_operation (codes "END") earlier ≡ false
   pub oper : has_operation (codes "OPER") earlier ≡ true
   pub outside : is_in_program earlier ≡ false
-  pub command_count : count_by (is_called (codes "CANCEL")) earlier + commands ≤ 64
+  pub command_count : count_by (is_called (codes "CANCEL")) earlier + commands ≤ most_commands
   pub task : has_operation (codes "TASK") earlier ≡ true
 
 pub keeps_command : (earlier : List CardText) (text : List ℕ) (commands : ℕ) → text ≡ [] → InCommands earlier (suc commands) → KeepsRules earlier forms.Cancel text
@@ -139,7 +140,7 @@ keeps_command earlier text commands is k = let count = k.command_count in record
   named = no_name text is;
   placed = or_from _ (not (has_operation (codes "OPER") earlier)) (or_from (has_operation (codes "END") earlier) (is_in_program earlier) k.no_end k.outside) (not_from_true _ k.oper);
   single = unnamed_single text _ is;
-  few = lt-leb 64 (count_by (is_called (codes "CANCEL")) earlier) (omega arith);
+  few = lt-leb most_commands (count_by (is_called (codes "CANCEL")) earlier) (omega arith);
   needs_no_task = refl;
 }
 
@@ -184,7 +185,7 @@ commands_break_none d (command ∷ commands) (c ∷ cards) earlier s k =
         no_end = or_from (is_called (codes "END") c) _ (called_as c forms.Cancel (codes "END") op) k.no_end;
         oper = or_behind (is_called (codes "OPER") c) _ k.oper;
         outside = stays c earlier (called_as c forms.Cancel (codes "PROG") op) (called_as c forms.Cancel (codes "PEND") op) ∙ k.outside;
-        command_count = count_next (is_called (codes "CANCEL")) c earlier 64 (length commands) k.command_count;
+        command_count = count_next (is_called (codes "CANCEL")) c earlier most_commands (length commands) k.command_count;
         task = or_behind (is_called (codes "TASK") c) _ k.task;
       }),
     )
@@ -373,13 +374,13 @@ region_is_other c op = record {
   last = called_as c forms.Region (codes "END") op;
 }
 
-opening_breaks_none : (d : DeckView) (region : Bool) (limit : ℕ) (rest : List Item) (programs : List (List ℕ)) (units : List UnitCard) (commands : ℕ) (cards : List CardText)
-    → SpellEach d cards (opening region limit rest) → Kept [] programs units commands → Goes d rest programs units commands → BreakNone [] cards
-opening_breaks_none d false limit rest programs units commands cards s k next = next cards [] s k refl
-opening_breaks_none d true limit rest programs units commands [] s k next = absurd cc
-opening_breaks_none d true limit rest programs units commands (c ∷ cards) s k next =
+opening_breaks_none : (d : DeckView) (region : Bool) (limit : ℕ) (sdwa : Bool) (rest : List Item) (programs : List (List ℕ)) (units : List UnitCard) (commands : ℕ) (cards : List CardText)
+    → SpellEach d cards (opening region limit sdwa rest) → Kept [] programs units commands → Goes d rest programs units commands → BreakNone [] cards
+opening_breaks_none d false limit sdwa rest programs units commands cards s k next = next cards [] s k refl
+opening_breaks_none d true limit sdwa rest programs units commands [] s k next = absurd cc
+opening_breaks_none d true limit sdwa rest programs units commands (c ∷ cards) s k next =
     let op = s.0.operation in (
-      breaks_none [] c forms.Region (values_of d (LimitCard limit)) op s.0.operands (record { named = no_name c.name s.0.name; placed = refl; single = unnamed_single c.name _ s.0.name; few = refl; needs_no_task = refl }),
+      breaks_none [] c forms.Region (values_of d (RegionCard limit sdwa)) op s.0.operands (record { named = no_name c.name s.0.name; placed = refl; single = unnamed_single c.name _ s.0.name; few = refl; needs_no_task = refl }),
       next cards (c ∷ []) s.1 (kept_past c [] programs units commands (region_is_other c op) k)
           (stays c [] (called_as c forms.Region (codes "PROG") op) (called_as c forms.Region (codes "PEND") op)),
     )
@@ -416,7 +417,7 @@ cards_break_none cards d s h =
     let first : Kept [] (map (λ p. p.name) (programs_in s.blocks)) (units_in s.blocks) (length d.commands) =
     subst (λ (us : List UnitCard). Kept [] (map (λ p. p.name) (programs_in s.blocks)) us (length d.commands)) units
     (subst (λ (ps : List ProgramView). Kept [] (map (λ p. p.name) ps) d.units (length d.commands)) programs (kept_at_first d h)) in
-    opening_breaks_none d s.region d.limit (blocks_then s.blocks (closing s.oper d.commands)) (map (λ p. p.name) (programs_in s.blocks)) (units_in s.blocks) (length d.commands) cards
+    opening_breaks_none d s.region d.limit d.sdwa (blocks_then s.blocks (closing s.oper d.commands)) (map (λ p. p.name) (programs_in s.blocks)) (units_in s.blocks) (length d.commands) cards
     (subst (λ (items : List Item). SpellEach d cards items) (laid_out s.region s.oper s.blocks d) s.each) first
     (λ cards earlier each kept outside. blocks_break_none d s.blocks (closing s.oper d.commands) (length d.commands) cards earlier
     (subst (λ (ps : List ProgramView). IsTrue (list_all (is_program_of d) ps)) programs k.programs)

@@ -56,9 +56,9 @@ good_closing : (d : DeckView) (oper : Bool) (commands : List Command) → IsTrue
 good_closing d true commands h = (tt, good_commands d commands h)
 good_closing d false commands h = (tt, tt)
 
-good_opening : (d : DeckView) (region : Bool) (limit : ℕ) (rest : List Item) → AllByRecursion (Good d) rest → AllByRecursion (Good d) (opening region limit rest)
-good_opening d true limit rest r = (tt, r)
-good_opening d false limit rest r = r
+good_opening : (d : DeckView) (region : Bool) (limit : ℕ) (sdwa : Bool) (rest : List Item) → AllByRecursion (Good d) rest → AllByRecursion (Good d) (opening region limit sdwa rest)
+good_opening d true limit sdwa rest r = (tt, r)
+good_opening d false limit sdwa rest r = r
 
 -- each item of a well formed deck is good
 pub good_items : (cards : List CardText) (d : DeckView) (s : SpellsDeck cards d) → IsTrue (is_well_formed d) → AllByRecursion (Good d) (items_of s.region s.oper s.blocks d)
@@ -67,7 +67,7 @@ good_items cards d s h =
     let programs : IsTrue (list_all (is_program_of d) (programs_in s.blocks)) = subst (λ (ps : List ProgramView). IsTrue (list_all (is_program_of d) ps)) (sym s.programs) k.programs in
     let units : IsTrue (list_all (is_unit_of d) (units_in s.blocks)) = subst (λ (us : List UnitCard). IsTrue (list_all (is_unit_of d) us)) (sym s.units) k.units in
     subst (λ (items : List Item). AllByRecursion (Good d) items) (sym (laid_out s.region s.oper s.blocks d))
-    (good_opening d s.region d.limit _ (good_blocks d s.blocks _ programs units (good_closing d s.oper d.commands k.commands)))
+    (good_opening d s.region d.limit d.sdwa _ (good_blocks d s.blocks _ programs units (good_closing d s.oper d.commands k.commands)))
 
 pub named : (d : DeckView) → IsTrue (is_well_formed d) → Named d
 named d h =
@@ -142,13 +142,13 @@ units_named_by_closing : (oper : Bool) (commands : List Command) → units_named
 units_named_by_closing true commands = units_named_by_commands commands
 units_named_by_closing false commands = refl
 
-programs_named_opening : (region : Bool) (limit : ℕ) (rest : List Item) → programs_named (opening region limit rest) ≡ programs_named rest
-programs_named_opening true limit rest = refl
-programs_named_opening false limit rest = refl
+programs_named_opening : (region : Bool) (limit : ℕ) (sdwa : Bool) (rest : List Item) → programs_named (opening region limit sdwa rest) ≡ programs_named rest
+programs_named_opening true limit sdwa rest = refl
+programs_named_opening false limit sdwa rest = refl
 
-units_named_opening : (region : Bool) (limit : ℕ) (rest : List Item) → units_named (opening region limit rest) ≡ units_named rest
-units_named_opening true limit rest = refl
-units_named_opening false limit rest = refl
+units_named_opening : (region : Bool) (limit : ℕ) (sdwa : Bool) (rest : List Item) → units_named (opening region limit sdwa rest) ≡ units_named rest
+units_named_opening true limit sdwa rest = refl
+units_named_opening false limit sdwa rest = refl
 
 programs_named_are : (cards : List CardText) (d : DeckView) (s : SpellsDeck cards d) → IsTrue (is_well_formed d) → programs_named (items_of s.region s.oper s.blocks d) ≡ program_names d
 programs_named_are cards d s h =
@@ -156,7 +156,7 @@ programs_named_are cards d s h =
     let good : IsTrue (list_all (is_program_of d) (programs_in s.blocks)) = subst (λ (ps : List ProgramView). IsTrue (list_all (is_program_of d) ps)) (sym s.programs) k.programs in
     let rest = closing s.oper d.commands in
     ap programs_named (laid_out s.region s.oper s.blocks d)
-    ∙ (programs_named_opening s.region d.limit (blocks_then s.blocks rest)
+    ∙ (programs_named_opening s.region d.limit d.sdwa (blocks_then s.blocks rest)
     ∙ (programs_named_in_blocks d s.blocks rest good (programs_named_by_closing s.oper d.commands)
     ∙ ap (λ (ps : List ProgramView). map (λ p. p.name) ps) s.programs))
 
@@ -166,7 +166,7 @@ units_named_are cards d s h =
     let good : IsTrue (list_all (is_unit_of d) (units_in s.blocks)) = subst (λ (us : List UnitCard). IsTrue (list_all (is_unit_of d) us)) (sym s.units) k.units in
     let rest = closing s.oper d.commands in
     ap units_named (laid_out s.region s.oper s.blocks d)
-    ∙ (units_named_opening s.region d.limit (blocks_then s.blocks rest)
+    ∙ (units_named_opening s.region d.limit d.sdwa (blocks_then s.blocks rest)
     ∙ (units_named_in_blocks d s.blocks rest good (units_named_by_closing s.oper d.commands)
     ∙ ap (λ (us : List UnitCard). map (λ u. u.name) us) s.units))
 

@@ -4,15 +4,17 @@ use Rattle.rtm_deck_items.specs.declared.deck.Line.{Line}
 use Rattle.rtm_deck_items.specs.declared.deck.Unit.{Unit as UnitCard}
 use Rattle.rtm_deck_items.specs.declared.deck.Command.{Command}
 use Rattle.rtm_deck_items.specs.View.{ProgramView, DeckView}
-use Rattle.rtm_deck_items.specs.Items.{Item, LimitCard, ProgramStart, ProgramCard, UnitOfWork, CommandCard, Block, ProgramBlock, UnitBlock, items_of}
+use Rattle.rtm_deck_items.specs.Items.{Item, RegionCard, ProgramStart, ProgramCard, UnitOfWork, CommandCard, Block, ProgramBlock, UnitBlock, items_of}
 use Rattle.rtm_deck_items.specs.Spelling.{programs_in, units_in, SpellsDeck}
+use Rattle.rtm_cards.specs.Limits.{default_entries}
 use Rattle.rtm_cards.specs.Cards.{CardText}
 use Rattle.rtm_deck_spelling.proofs.LaidOut.{lines_then, blocks_then, commands_then_end, closing, opening, laid_out}
 
-abbrev limit_among : List Item → ℕ
-limit_among [] = 20000
-limit_among (LimitCard limit ∷ items) = limit
-limit_among (item ∷ items) = limit_among items
+-- the limit and whether routines get an SDWA: of REGION, or the defaults
+abbrev region_among : List Item → ℕ × Bool
+region_among [] = (default_entries, true)
+region_among (RegionCard limit sdwa ∷ items) = (limit, sdwa)
+region_among (item ∷ items) = region_among items
 
 abbrev lines_up_to_end : List Item → List Line
 lines_up_to_end [] = []
@@ -36,15 +38,15 @@ commands_among (item ∷ items) = commands_among items
 
 -- the deck that the items are those of
 abbrev pub deck_of : List Item → DeckView
-deck_of items = record { limit = limit_among items; programs = programs_among items; units = units_among items; commands = commands_among items }
+deck_of items = record { limit = (region_among items).0; sdwa = (region_among items).1; programs = programs_among items; units = units_among items; commands = commands_among items }
 
 lines_found : (lines : List Line) (rest : List Item) → lines_up_to_end (lines_then lines rest) ≡ lines
 lines_found [] rest = refl
 lines_found (line ∷ lines) rest = ap (λ (xs : List Line). line ∷ xs) (lines_found lines rest)
 
-limit_past_lines : (lines : List Line) (rest : List Item) → limit_among (lines_then lines rest) ≡ limit_among rest
-limit_past_lines [] rest = refl
-limit_past_lines (line ∷ lines) rest = limit_past_lines lines rest
+region_past_lines : (lines : List Line) (rest : List Item) → region_among (lines_then lines rest) ≡ region_among rest
+region_past_lines [] rest = refl
+region_past_lines (line ∷ lines) rest = region_past_lines lines rest
 
 programs_past_lines : (lines : List Line) (rest : List Item) → programs_among (lines_then lines rest) ≡ programs_among rest
 programs_past_lines [] rest = refl
@@ -58,10 +60,10 @@ commands_past_lines : (lines : List Line) (rest : List Item) → commands_among 
 commands_past_lines [] rest = refl
 commands_past_lines (line ∷ lines) rest = commands_past_lines lines rest
 
-limit_past_blocks : (blocks : List Block) (rest : List Item) → limit_among (blocks_then blocks rest) ≡ limit_among rest
-limit_past_blocks [] rest = refl
-limit_past_blocks (ProgramBlock p ∷ blocks) rest = limit_past_lines p.lines (blocks_then blocks rest) ∙ limit_past_blocks blocks rest
-limit_past_blocks (UnitBlock u ∷ blocks) rest = limit_past_blocks blocks rest
+region_past_blocks : (blocks : List Block) (rest : List Item) → region_among (blocks_then blocks rest) ≡ region_among rest
+region_past_blocks [] rest = refl
+region_past_blocks (ProgramBlock p ∷ blocks) rest = region_past_lines p.lines (blocks_then blocks rest) ∙ region_past_blocks blocks rest
+region_past_blocks (UnitBlock u ∷ blocks) rest = region_past_blocks blocks rest
 
 commands_past_blocks : (blocks : List Block) (rest : List Item) → commands_among (blocks_then blocks rest) ≡ commands_among rest
 commands_past_blocks [] rest = refl
@@ -84,9 +86,9 @@ units_found [] rest e = e
 units_found (ProgramBlock p ∷ blocks) rest e = units_past_lines p.lines (blocks_then blocks rest) ∙ units_found blocks rest e
 units_found (UnitBlock u ∷ blocks) rest e = ap (λ (xs : List UnitCard). u ∷ xs) (units_found blocks rest e)
 
-no_limit_among_commands : (commands : List Command) → limit_among (commands_then_end commands) ≡ 20000
-no_limit_among_commands [] = refl
-no_limit_among_commands (command ∷ commands) = no_limit_among_commands commands
+no_region_among_commands : (commands : List Command) → region_among (commands_then_end commands) ≡ (default_entries, true)
+no_region_among_commands [] = refl
+no_region_among_commands (command ∷ commands) = no_region_among_commands commands
 
 no_programs_among_commands : (commands : List Command) → programs_among (commands_then_end commands) ≡ []
 no_programs_among_commands [] = refl
@@ -100,9 +102,9 @@ commands_found : (commands : List Command) → commands_among (commands_then_end
 commands_found [] = refl
 commands_found (command ∷ commands) = ap (λ (xs : List Command). command ∷ xs) (commands_found commands)
 
-no_limit_in_closing : (oper : Bool) (commands : List Command) → limit_among (closing oper commands) ≡ 20000
-no_limit_in_closing true commands = no_limit_among_commands commands
-no_limit_in_closing false commands = refl
+no_region_in_closing : (oper : Bool) (commands : List Command) → region_among (closing oper commands) ≡ (default_entries, true)
+no_region_in_closing true commands = no_region_among_commands commands
+no_region_in_closing false commands = refl
 
 no_programs_in_closing : (oper : Bool) (commands : List Command) → programs_among (closing oper commands) ≡ []
 no_programs_in_closing true commands = no_programs_among_commands commands
@@ -116,26 +118,27 @@ commands_in_closing : (oper : Bool) (commands : List Command) → (not oper ≡ 
 commands_in_closing true commands h = commands_found commands
 commands_in_closing false commands h = sym (h refl)
 
-limit_laid : (region : Bool) (limit : ℕ) (rest : List Item) → limit_among rest ≡ 20000 → (not region ≡ true → limit ≡ 20000) → limit_among (opening region limit rest) ≡ limit
-limit_laid true limit rest e h = refl
-limit_laid false limit rest e h = e ∙ sym (h refl)
+region_laid : (region : Bool) (limit : ℕ) (sdwa : Bool) (rest : List Item) → region_among rest ≡ (default_entries, true)
+    → (not region ≡ true → limit ≡ default_entries) → (not region ≡ true → sdwa ≡ true) → region_among (opening region limit sdwa rest) ≡ (limit, sdwa)
+region_laid true limit sdwa rest e h g = refl
+region_laid false limit sdwa rest e h g = e ∙ rw (h refl, g refl) refl
 
-programs_laid : (region : Bool) (limit : ℕ) (rest : List Item) → programs_among (opening region limit rest) ≡ programs_among rest
-programs_laid true limit rest = refl
-programs_laid false limit rest = refl
+programs_laid : (region : Bool) (limit : ℕ) (sdwa : Bool) (rest : List Item) → programs_among (opening region limit sdwa rest) ≡ programs_among rest
+programs_laid true limit sdwa rest = refl
+programs_laid false limit sdwa rest = refl
 
-units_laid : (region : Bool) (limit : ℕ) (rest : List Item) → units_among (opening region limit rest) ≡ units_among rest
-units_laid true limit rest = refl
-units_laid false limit rest = refl
+units_laid : (region : Bool) (limit : ℕ) (sdwa : Bool) (rest : List Item) → units_among (opening region limit sdwa rest) ≡ units_among rest
+units_laid true limit sdwa rest = refl
+units_laid false limit sdwa rest = refl
 
-commands_laid : (region : Bool) (limit : ℕ) (rest : List Item) → commands_among (opening region limit rest) ≡ commands_among rest
-commands_laid true limit rest = refl
-commands_laid false limit rest = refl
+commands_laid : (region : Bool) (limit : ℕ) (sdwa : Bool) (rest : List Item) → commands_among (opening region limit sdwa rest) ≡ commands_among rest
+commands_laid true limit sdwa rest = refl
+commands_laid false limit sdwa rest = refl
 
-same_deck : (d : DeckView) (limit : ℕ) (programs : List ProgramView) (units : List UnitCard) (commands : List Command)
-    → limit ≡ d.limit → programs ≡ d.programs → units ≡ d.units → commands ≡ d.commands
-    → record { limit = limit; programs = programs; units = units; commands = commands } ≡ d
-same_deck d limit programs units commands e f g h = rw (e, f, g, h) refl
+same_deck : (d : DeckView) (region : ℕ × Bool) (programs : List ProgramView) (units : List UnitCard) (commands : List Command)
+    → region ≡ (d.limit, d.sdwa) → programs ≡ d.programs → units ≡ d.units → commands ≡ d.commands
+    → record { limit = region.0; sdwa = region.1; programs = programs; units = units; commands = commands } ≡ d
+same_deck d region programs units commands e f g h = rw (e, f, g, h) refl
 
 -- a deck is what its items are those of
 pub deck_found : (cards : List CardText) (d : DeckView) (s : SpellsDeck cards d) → deck_of (items_of s.region s.oper s.blocks d) ≡ d
@@ -143,8 +146,8 @@ deck_found cards d s =
     let rest = closing s.oper d.commands in
     let inner = blocks_then s.blocks rest in
     ap deck_of (laid_out s.region s.oper s.blocks d)
-    ∙ same_deck d (limit_among (opening s.region d.limit inner)) (programs_among (opening s.region d.limit inner)) (units_among (opening s.region d.limit inner)) (commands_among (opening s.region d.limit inner))
-    (limit_laid s.region d.limit inner (limit_past_blocks s.blocks rest ∙ no_limit_in_closing s.oper d.commands) s.limit)
-    (programs_laid s.region d.limit inner ∙ (programs_found s.blocks rest (no_programs_in_closing s.oper d.commands) ∙ s.programs))
-    (units_laid s.region d.limit inner ∙ (units_found s.blocks rest (no_units_in_closing s.oper d.commands) ∙ s.units))
-    (commands_laid s.region d.limit inner ∙ (commands_past_blocks s.blocks rest ∙ commands_in_closing s.oper d.commands s.commands))
+    ∙ same_deck d (region_among (opening s.region d.limit d.sdwa inner)) (programs_among (opening s.region d.limit d.sdwa inner)) (units_among (opening s.region d.limit d.sdwa inner)) (commands_among (opening s.region d.limit d.sdwa inner))
+    (region_laid s.region d.limit d.sdwa inner (region_past_blocks s.blocks rest ∙ no_region_in_closing s.oper d.commands) s.limit s.sdwa)
+    (programs_laid s.region d.limit d.sdwa inner ∙ (programs_found s.blocks rest (no_programs_in_closing s.oper d.commands) ∙ s.programs))
+    (units_laid s.region d.limit d.sdwa inner ∙ (units_found s.blocks rest (no_units_in_closing s.oper d.commands) ∙ s.units))
+    (commands_laid s.region d.limit d.sdwa inner ∙ (commands_past_blocks s.blocks rest ∙ commands_in_closing s.oper d.commands s.commands))

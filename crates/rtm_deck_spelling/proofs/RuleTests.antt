@@ -1,6 +1,6 @@
 -- The tests of the rules of form, at each form of card.
-use Rattle.std.proofs.Common.{◌≡◌, ℕ, Bool, true, false, not, ◌&&◌, ◌||◌, eqb, List, [], ◌∷◌, length, Option, Some, refl, ap, sym, subst, ◌∙◌}
-use Rattle.std.specs.Prelude.{bytes_eq, codes}
+use Rattle.std.proofs.Common.{◌≡◌, ℕ, Bool, true, false, not, ◌&&◌, ◌||◌, eqb, List, [], ◌∷◌, length, Option, Some, None, refl, ap, sym, subst, ◌∙◌}
+use Rattle.std.specs.Prelude.{bytes_eq, codes, is_some, unwrap_or}
 use Rattle.std.specs.List.{list_any, list_all}
 use Rattle.std.proofs.lemmas.Bool.{not-true, both_ways}
 use Rattle.rtm_deck_operands.specs.declared.value.Value.{Value}
@@ -19,84 +19,14 @@ use Rattle.rtm_deck_spelling.proofs.Operations.{is_line, op_is_line}
 
 -- the first form of the operation of a form
 abbrev pub first_form : CardForm → CardForm
-first_form forms.Region = forms.Region
-first_form forms.Prog = forms.Prog
-first_form forms.Pend = forms.Pend
-first_form forms.Task = forms.Task
-first_form forms.Srb = forms.Srb
-first_form forms.Oper = forms.Oper
-first_form forms.Cancel = forms.Cancel
-first_form forms.End = forms.End
-first_form forms.Nop = forms.Nop
-first_form forms.Get = forms.Get
-first_form forms.Free = forms.Free
-first_form forms.Link = forms.Link
-first_form forms.Xctl = forms.Xctl
-first_form forms.Return = forms.Return
-first_form forms.Abend = forms.Abend
-first_form forms.EstaexCt = forms.EstaexCt
-first_form forms.EstaexOv = forms.EstaexCt
-first_form forms.EstaexZero = forms.EstaexCt
-first_form forms.FrrAdd = forms.FrrAdd
-first_form forms.FrrDelete = forms.FrrAdd
-first_form forms.FrrReplace = forms.FrrAdd
-first_form forms.FrrPurge = forms.FrrAdd
-first_form forms.Attachx = forms.Attachx
-first_form forms.AttachxEstai = forms.Attachx
-first_form forms.Detach = forms.Detach
-first_form forms.Abterm = forms.Abterm
-first_form forms.Memterm = forms.Abterm
-first_form forms.MgrAdd = forms.MgrAdd
-first_form forms.MgrDelete = forms.MgrAdd
-first_form forms.Schedule = forms.Schedule
-first_form forms.Wait = forms.Wait
-first_form forms.WaitTask = forms.WaitTask
-first_form forms.Post = forms.Post
-first_form forms.SetRp = forms.SetRp
-first_form forms.Branch = forms.Branch
-first_form forms.IfCode = forms.IfCode
-first_form forms.IfClup = forms.IfClup
-first_form forms.IfPerc = forms.IfPerc
+first_form form = unwrap_or (form_named (operation_of form)) form
 
 pub named_first : (f : CardForm) → form_named (operation_of f) ≡ Some (first_form f)
-named_first forms.Region = refl
-named_first forms.Prog = refl
-named_first forms.Pend = refl
-named_first forms.Task = refl
-named_first forms.Srb = refl
-named_first forms.Oper = refl
-named_first forms.Cancel = refl
-named_first forms.End = refl
-named_first forms.Nop = refl
-named_first forms.Get = refl
-named_first forms.Free = refl
-named_first forms.Link = refl
-named_first forms.Xctl = refl
-named_first forms.Return = refl
-named_first forms.Abend = refl
-named_first forms.EstaexCt = refl
-named_first forms.EstaexOv = refl
-named_first forms.EstaexZero = refl
-named_first forms.FrrAdd = refl
-named_first forms.FrrDelete = refl
-named_first forms.FrrReplace = refl
-named_first forms.FrrPurge = refl
-named_first forms.Attachx = refl
-named_first forms.AttachxEstai = refl
-named_first forms.Detach = refl
-named_first forms.Abterm = refl
-named_first forms.Memterm = refl
-named_first forms.MgrAdd = refl
-named_first forms.MgrDelete = refl
-named_first forms.Schedule = refl
-named_first forms.Wait = refl
-named_first forms.WaitTask = refl
-named_first forms.Post = refl
-named_first forms.SetRp = refl
-named_first forms.Branch = refl
-named_first forms.IfCode = refl
-named_first forms.IfClup = refl
-named_first forms.IfPerc = refl
+named_first f = go (form_named (operation_of f)) (for_each_test (λ f. is_some (form_named (operation_of f))) refl f)
+  where
+    go : (named : Option CardForm) → is_some named ≡ true → named ≡ Some (unwrap_or named f)
+    go None h = absurd cc
+    go (Some g) h = refl
 
 -- what holds of the forms of cards in programs
 pub record IsLineForm (f : CardForm) : Type 0 where
@@ -107,7 +37,7 @@ pub record IsLineForm (f : CardForm) : Type 0 where
   pub needs_no_task : (earlier : List CardText) → lacks_task earlier f ≡ false
   pub doubled : (earlier : List CardText) (name : List ℕ) → is_doubled earlier f name ≡ (not (eqb (length name) 0) && list_any (is_named name) (since_program earlier))
 
-line_form : (f : CardForm) → is_line f ≡ true → IsLineForm (first_form f)
+line_form : (f : CardForm) → is_line f ≡ true → IsLineForm f
 line_form forms.Region h = absurd cc
 line_form forms.Prog h = absurd cc
 line_form forms.Pend h = absurd cc
@@ -116,39 +46,18 @@ line_form forms.Srb h = absurd cc
 line_form forms.Oper h = absurd cc
 line_form forms.Cancel h = absurd cc
 line_form forms.End h = absurd cc
-line_form forms.Nop h = record { named = λ name. refl; inside = refl; in_order = λ earlier. refl; few = λ earlier. refl; needs_no_task = λ earlier. refl; doubled = λ earlier name. refl }
-line_form forms.Get h = record { named = λ name. refl; inside = refl; in_order = λ earlier. refl; few = λ earlier. refl; needs_no_task = λ earlier. refl; doubled = λ earlier name. refl }
-line_form forms.Free h = record { named = λ name. refl; inside = refl; in_order = λ earlier. refl; few = λ earlier. refl; needs_no_task = λ earlier. refl; doubled = λ earlier name. refl }
-line_form forms.Link h = record { named = λ name. refl; inside = refl; in_order = λ earlier. refl; few = λ earlier. refl; needs_no_task = λ earlier. refl; doubled = λ earlier name. refl }
-line_form forms.Xctl h = record { named = λ name. refl; inside = refl; in_order = λ earlier. refl; few = λ earlier. refl; needs_no_task = λ earlier. refl; doubled = λ earlier name. refl }
-line_form forms.Return h = record { named = λ name. refl; inside = refl; in_order = λ earlier. refl; few = λ earlier. refl; needs_no_task = λ earlier. refl; doubled = λ earlier name. refl }
-line_form forms.Abend h = record { named = λ name. refl; inside = refl; in_order = λ earlier. refl; few = λ earlier. refl; needs_no_task = λ earlier. refl; doubled = λ earlier name. refl }
-line_form forms.EstaexCt h = record { named = λ name. refl; inside = refl; in_order = λ earlier. refl; few = λ earlier. refl; needs_no_task = λ earlier. refl; doubled = λ earlier name. refl }
-line_form forms.EstaexOv h = record { named = λ name. refl; inside = refl; in_order = λ earlier. refl; few = λ earlier. refl; needs_no_task = λ earlier. refl; doubled = λ earlier name. refl }
-line_form forms.EstaexZero h = record { named = λ name. refl; inside = refl; in_order = λ earlier. refl; few = λ earlier. refl; needs_no_task = λ earlier. refl; doubled = λ earlier name. refl }
-line_form forms.FrrAdd h = record { named = λ name. refl; inside = refl; in_order = λ earlier. refl; few = λ earlier. refl; needs_no_task = λ earlier. refl; doubled = λ earlier name. refl }
-line_form forms.FrrDelete h = record { named = λ name. refl; inside = refl; in_order = λ earlier. refl; few = λ earlier. refl; needs_no_task = λ earlier. refl; doubled = λ earlier name. refl }
-line_form forms.FrrReplace h = record { named = λ name. refl; inside = refl; in_order = λ earlier. refl; few = λ earlier. refl; needs_no_task = λ earlier. refl; doubled = λ earlier name. refl }
-line_form forms.FrrPurge h = record { named = λ name. refl; inside = refl; in_order = λ earlier. refl; few = λ earlier. refl; needs_no_task = λ earlier. refl; doubled = λ earlier name. refl }
-line_form forms.Attachx h = record { named = λ name. refl; inside = refl; in_order = λ earlier. refl; few = λ earlier. refl; needs_no_task = λ earlier. refl; doubled = λ earlier name. refl }
-line_form forms.AttachxEstai h = record { named = λ name. refl; inside = refl; in_order = λ earlier. refl; few = λ earlier. refl; needs_no_task = λ earlier. refl; doubled = λ earlier name. refl }
-line_form forms.Detach h = record { named = λ name. refl; inside = refl; in_order = λ earlier. refl; few = λ earlier. refl; needs_no_task = λ earlier. refl; doubled = λ earlier name. refl }
-line_form forms.Abterm h = record { named = λ name. refl; inside = refl; in_order = λ earlier. refl; few = λ earlier. refl; needs_no_task = λ earlier. refl; doubled = λ earlier name. refl }
-line_form forms.Memterm h = record { named = λ name. refl; inside = refl; in_order = λ earlier. refl; few = λ earlier. refl; needs_no_task = λ earlier. refl; doubled = λ earlier name. refl }
-line_form forms.MgrAdd h = record { named = λ name. refl; inside = refl; in_order = λ earlier. refl; few = λ earlier. refl; needs_no_task = λ earlier. refl; doubled = λ earlier name. refl }
-line_form forms.MgrDelete h = record { named = λ name. refl; inside = refl; in_order = λ earlier. refl; few = λ earlier. refl; needs_no_task = λ earlier. refl; doubled = λ earlier name. refl }
-line_form forms.Schedule h = record { named = λ name. refl; inside = refl; in_order = λ earlier. refl; few = λ earlier. refl; needs_no_task = λ earlier. refl; doubled = λ earlier name. refl }
-line_form forms.Wait h = record { named = λ name. refl; inside = refl; in_order = λ earlier. refl; few = λ earlier. refl; needs_no_task = λ earlier. refl; doubled = λ earlier name. refl }
-line_form forms.WaitTask h = record { named = λ name. refl; inside = refl; in_order = λ earlier. refl; few = λ earlier. refl; needs_no_task = λ earlier. refl; doubled = λ earlier name. refl }
-line_form forms.Post h = record { named = λ name. refl; inside = refl; in_order = λ earlier. refl; few = λ earlier. refl; needs_no_task = λ earlier. refl; doubled = λ earlier name. refl }
-line_form forms.SetRp h = record { named = λ name. refl; inside = refl; in_order = λ earlier. refl; few = λ earlier. refl; needs_no_task = λ earlier. refl; doubled = λ earlier name. refl }
-line_form forms.Branch h = record { named = λ name. refl; inside = refl; in_order = λ earlier. refl; few = λ earlier. refl; needs_no_task = λ earlier. refl; doubled = λ earlier name. refl }
-line_form forms.IfCode h = record { named = λ name. refl; inside = refl; in_order = λ earlier. refl; few = λ earlier. refl; needs_no_task = λ earlier. refl; doubled = λ earlier name. refl }
-line_form forms.IfClup h = record { named = λ name. refl; inside = refl; in_order = λ earlier. refl; few = λ earlier. refl; needs_no_task = λ earlier. refl; doubled = λ earlier name. refl }
-line_form forms.IfPerc h = record { named = λ name. refl; inside = refl; in_order = λ earlier. refl; few = λ earlier. refl; needs_no_task = λ earlier. refl; doubled = λ earlier name. refl }
+line_form _ h = record { named = λ name. refl; inside = refl; in_order = λ earlier. refl; few = λ earlier. refl; needs_no_task = λ earlier. refl; doubled = λ earlier name. refl }
+
+-- the first form of an operation of programs' cards is one of theirs
+first_is_line : (f : CardForm) → is_line f ≡ true → is_line (first_form f) ≡ true
+first_is_line f h = go (is_line f) h (for_each_test (λ f. not (is_line f) || is_line (first_form f)) refl f)
+  where
+    go : (t : Bool) → t ≡ true → (not t || is_line (first_form f)) ≡ true → is_line (first_form f) ≡ true
+    go true h e = e
+    go false h e = absurd cc
 
 pub line_form_of_op : (op : Op) → IsLineForm (first_form (form_of_op op))
-line_form_of_op op = line_form (form_of_op op) (op_is_line op)
+line_form_of_op op = line_form (first_form (form_of_op op)) (first_is_line (form_of_op op) (op_is_line op))
 
 -- The operation of the card is one of programs' cards.
 pub record IsLineCard (c : CardText) : Type 0 where

@@ -19,6 +19,8 @@ pub fn no_deck_with_a_fault()
 
 /// Bytes have at most one first fault.
 pub fn one_first_fault()
-    ensures card { (bytes : List ℕ) (a b : ℕ) (p q : Why) → IsFirstFault bytes a p → IsFirstFault bytes b q → a ≡ b }
-    ensures why { (bytes : List ℕ) (a b : ℕ) (p q : Why) → IsFirstFault bytes a p → IsFirstFault bytes b q → p ≡ q }
+    ensures card { (bytes : List ℕ) (a b : ℕ) (p q : Why) → IsFirstFault bytes a p
+        → IsFirstFault bytes b q → a ≡ b }
+    ensures why { (bytes : List ℕ) (a b : ℕ) (p q : Why) → IsFirstFault bytes a p
+        → IsFirstFault bytes b q → p ≡ q }
 {}

@@ -1,9 +1,8 @@
 -- How many holdings were born at an entry, as the lists change.
-use Rattle.std.proofs.Common.{◌≡◌, ℕ, zero, suc, ◌+◌, ◌-◌, ◌<◌, ◌≤◌, Bool, true, false, cond, List, [], ◌∷◌, length, replicate, reverse, take, drop, Some, ◌++◌, slice_get, refl, sym, ap, ◌∙◌, arith}
+use Rattle.std.proofs.Common.{◌≡◌, ℕ, zero, suc, ◌+◌, ◌-◌, ◌<◌, ◌≤◌, Bool, true, false, cond, List, [], ◌∷◌, length, replicate, take, drop, ◌++◌, refl, sym, ap, ◌∙◌, arith}
 use Rattle.std.specs.Prelude.{◌==◌, not, if◌then◌else◌, map, filter, slice_index_or, slice_set}
-use Rattle.std.proofs.lemmas.List.{reverse-append, reverse-reverse, take_at, length_push, length-replicate, drop_all, append-nil, take_all}
+use Rattle.std.proofs.lemmas.List.{length-replicate, drop_all, append-nil, take_all}
 use Rattle.std.proofs.lemmas.Bool.Decides.{nat_tests}
-use Rattle.std.proofs.lemmas.Bool.{eq-eqb}
 use Rattle.rtm_deck_operands.specs.declared.value.Res.{Res}
 use Rattle.rtm_deck_operands.specs.declared.value.Res.TheVariants.{Enq, Stor, Dsn, Timr}
 use Rattle.rtm_model.specs.declared.holding.Holding.{Holding}
@@ -26,35 +25,15 @@ pub not_there : (born : ℕ) (hs : List Holding) → births_at born hs ≡ 0 →
 not_there born [] e = refl
 not_there born (h ∷ hs) e = kept_or_not (h.born == born) h hs (without_holding born hs) (births_at born hs) e (not_there born hs)
 
--- the newest of a list is the only one that was born there
-newest_or_not : (b : Bool) (h : Holding) (hs ks : List Holding) (n : ℕ) → b ≡ true → (cond b 1 0) + n ≤ 1 → (n ≡ 0 → ks ≡ hs) → cond (not b) (h ∷ ks) ks ≡ hs
-newest_or_not true h hs ks n e most rest = rest (omega arith)
-newest_or_not false h hs ks n e most rest = absurd cc
+-- the first that was born there is the only one
+alone_step : (b : Bool) (h : Holding) (hs firsts alls : List Holding) (n : ℕ) → (cond b 1 0) + n ≤ 1 → (n ≤ 1 → firsts ≡ alls) → (n ≡ 0 → alls ≡ hs) → (if b then hs else h ∷ firsts) ≡ cond (not b) (h ∷ alls) alls
+alone_step true h hs firsts alls n most rest none = sym (none (omega arith))
+alone_step false h hs firsts alls n most rest none = ap (λ l. h ∷ l) (rest (omega arith))
 
-pub newest_released : (born : ℕ) (h : Holding) (hs : List Holding) → (h.born == born) ≡ true → births_at born (h ∷ hs) ≤ 1 → without_holding born (h ∷ hs) ≡ hs
-newest_released born h hs e most = newest_or_not (h.born == born) h hs (without_holding born hs) (births_at born hs) e most (not_there born hs)
-
-newest_counts : (b : Bool) (n : ℕ) → b ≡ true → (cond b 1 0) + n ≤ 1 → (cond b 1 0) + n ≡ 1
-newest_counts true n e most = omega arith
-newest_counts false n e most = absurd cc
-
-pub newest_born : (born : ℕ) (h : Holding) (hs : List Holding) → (h.born == born) ≡ true → births_at born (h ∷ hs) ≤ 1 → births_at born (h ∷ hs) ≡ 1
-newest_born born h hs e most = newest_counts (h.born == born) (births_at born hs) e most
-
--- the same of a list that has the oldest first, and loses its last
-same_value : {A : Type 0} (x y : A) → Some x ≡ Some y → x ≡ y
-same_value x y e = cc
-
-pub popped : (born : ℕ) (hs : List Holding) (h : Holding) → slice_get hs 0 ≡ Some h → h.born ≡ born → births_at born hs ≤ 1 → reverse (take (length (reverse hs) - 1) (reverse hs)) ≡ without_holding born hs
-popped born [] h e is most = absurd cc
-popped born (x ∷ xs) h e is most =
-    let back : reverse (x ∷ xs) ≡ reverse xs ++ x ∷ [] = reverse-append (x ∷ []) xs in
-    let last : length (reverse xs) ≡ length (reverse xs ++ x ∷ []) - 1 = omega (arith, length_push (reverse xs) x) in
-    let same : x ≡ h = same_value x h e in
-    let here : (x.born == born) ≡ true = eq-eqb x.born born (ap (λ (y : Holding). y.born) same ∙ is) in
-    ap (λ l. reverse (take (length l - 1) l)) back
-    ∙ ap reverse (take_at (reverse xs) (x ∷ []) (length (reverse xs ++ x ∷ []) - 1) last)
-    ∙ reverse-reverse xs ∙ sym (newest_released born x xs here most)
+pub first_alone : (born : ℕ) (hs : List Holding) → births_at born hs ≤ 1 → without_first (λ holding. holding.born == born) hs ≡ without_holding born hs
+first_alone born [] most = refl
+first_alone born (h ∷ hs) most =
+    alone_step (h.born == born) h hs (without_first (λ holding. holding.born == born) hs) (without_holding born hs) (births_at born hs) most (first_alone born hs) (not_there born hs)
 
 -- fewer or as many births in a list that has lost some
 drop_step : (b keep : Bool) (born : ℕ) (h : Holding) (hs ks : List Holding) → births_at born ks ≤ births_at born hs → births_at born (cond keep (h ∷ ks) ks) ≤ (if h.born == born then 1 else 0) + births_at born hs
@@ -104,18 +83,6 @@ births-put b Stor h held = omega arith
 births-put b Dsn h held = omega arith
 births-put b Timr h held = omega arith
 
-pub not_there_of : (born : ℕ) (held : Holdings) → births_of born held ≡ 0 → owner_after_release born held ≡ held
-not_there_of born held e =
-    let enq : births_at born held.enq ≡ 0 = omega arith in
-    let stor : births_at born held.stor ≡ 0 = omega arith in
-    let dsn : births_at born held.dsn ≡ 0 = omega arith in
-    let timr : births_at born held.timr ≡ 0 = omega arith in
-    let e1 = not_there born held.enq enq in
-    let e2 = not_there born held.stor stor in
-    let e3 = not_there born held.dsn dsn in
-    let e4 = not_there born held.timr timr in
-    λ i. record { enq = e1 i; stor = e2 i; dsn = e3 i; timr = e4 i }
-
 -- Of all owners
 
 pub births-none_among : (born : ℕ) (owners : List Holdings) → AreHeldBefore born owners → births_among born owners ≡ 0
@@ -157,28 +124,6 @@ births-after_get b h owners within before most =
     let fresh : h.born ≡ b → births_among b owners ≡ 0 = λ e. ap (λ (n : ℕ). births_among n owners) (sym e) ∙ births-none_among h.born owners before in
     got_step h.born b (births_among b (after_get h owners)) (if h.born == b then 1 else 0) (births_among b owners) (births_of b held) all most fresh refl
 
-pub nobody_else : (born : ℕ) (owners : List Holdings) → births_among born owners ≡ 0 → after_release born owners ≡ owners
-nobody_else born [] e = refl
-nobody_else born (x ∷ xs) e =
-    let here : births_of born x ≡ 0 = omega arith in
-    let there : births_among born xs ≡ 0 = omega arith in
-    let a = not_there_of born x here in
-    let b = nobody_else born xs there in
-    λ i. a i ∷ b i
-
--- the one owner whose holding was born there is changed, and no other one has such a holding
-pub released_one : (born : ℕ) (owners : List Holdings) (i : ℕ) (d : Holdings) → i < length owners → births_of born (slice_index_or owners i d) ≡ 1 → births_among born owners ≤ 1 → slice_set owners i (owner_after_release born (slice_index_or owners i d)) ≡ after_release born owners
-released_one born [] i d within one most = absurd (omega arith)
-released_one born (x ∷ xs) zero d within one most =
-    let there : births_among born xs ≡ 0 = omega arith in
-    ap (λ l. owner_after_release born x ∷ l) (sym (nobody_else born xs there))
-released_one born (x ∷ xs) (suc i) d within one most =
-    let below : i < length xs = omega arith in
-    let here : births_of born x ≡ 0 = omega (arith, births_at_index born xs i d below) in
-    let a = sym (not_there_of born x here) in
-    let b = released_one born xs i d below one (omega arith) in
-    λ i. a i ∷ b i
-
 -- What holdings keep
 
 pub kept_got : (units : ℕ) (h : Holding) (owners : List Holdings) → h.owner ≤ units → AreHeldBefore h.born owners → AreKept units owners → length (after_get h owners) ≡ length owners → AreKept units (after_get h owners)
@@ -202,6 +147,12 @@ pub map_further : {A : Type 0} (f : A → A) (xs : List A) (i : ℕ) (d : A) →
 map_further f [] i d within = absurd (omega arith)
 map_further f (x ∷ xs) zero d within = refl
 map_further f (x ∷ xs) (suc i) d within = ap (λ l. f x ∷ l) (map_further f xs i d (omega arith))
+
+-- that element is still as it was
+pub further_on : {A : Type 0} (f : A → A) (xs : List A) (i : ℕ) (d : A) → i < length xs → slice_index_or (map f (take i xs) ++ drop i xs) i d ≡ slice_index_or xs i d
+further_on f [] i d within = absurd (omega arith)
+further_on f (x ∷ xs) zero d within = refl
+further_on f (x ∷ xs) (suc i) d within = further_on f xs i d (omega arith)
 
 -- what a slice of a whole vector leaves
 pub whole_slice : {A : Type 0} (n : ℕ) (new old : List A) → length new ≡ n → length old ≡ n → take n (new ++ drop (length new) old) ≡ new

@@ -1,4 +1,3 @@
 pub mod Acts
-pub mod Newest
 pub mod Refused
 pub mod View

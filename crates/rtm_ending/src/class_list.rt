@@ -1,18 +1,16 @@
 //! The holdings of one owner and one class.
 
-ghost use Rattle.std.specs.Prelude.{◌≡◌, ◌<◌, ◌≤◌, ◌==◌, not, [], ◌∷◌, length, reverse, filter, find, position, slice_get, vec_capacity, vec_len, if◌then◌else◌, IfOk, IfSome, IfNone, IsTrue};
+ghost use Rattle.std.specs.Prelude.{◌≡◌, ◌<◌, ◌≤◌, ◌==◌, [], ◌∷◌, length, reverse, find, position, remove, slice_get, slice_index_or, vec_capacity, IfOk, IfSome, IfNone};
 ghost use Rattle.rtm_model.specs.Chains.{without_first};
 ghost use Rattle.rtm_model.specs.Ending.{is_of_id, without_holding};
-ghost use Rattle.rtm_ending.specs.Newest.{IsNewest, IsAbsent};
+ghost use Rattle.rtm_model.specs.Limits.{most_holdings};
+ghost use Rattle.rtm_model.specs.inner.Newest.{IsNewest, IsAbsent};
 ghost use Rattle.rtm_ending.specs.View.{births_at};
 
 use rtm_codes::NoMemory;
-use rtm_model::Holding;
+use rtm_model::{Holding, MOST_HOLDINGS};
 use std::alloc::Global;
 use std::marker::Model;
-
-/// An owner has at most this many holdings, of all classes (this profile).
-pub(crate) const MOST_HOLDINGS: usize = 256;
 
 /// What an owner holds of a class, with room for all that an owner may hold.
 ///
@@ -25,12 +23,13 @@ pub(crate) struct ClassList {
 impl Model for ClassList {
     ghost use Rattle.std.specs.Prelude.{◌≤◌, List, reverse, vec_capacity};
     ghost use Rattle.rtm_model.specs.declared.holding.Holding.{Holding};
+    ghost use Rattle.rtm_model.specs.Limits.{most_holdings};
 
     ghost Value = { List Holding };
 
     ghost view = { λ a. reverse a.list.items };
 
-    ghost invariant = { λ a. 256 ≤ vec_capacity a.list };
+    ghost invariant = { λ a. most_holdings ≤ vec_capacity a.list };
 }
 
 fn is_of_id(holding: &Holding, id: u32) -> bool
@@ -75,16 +74,52 @@ fn newest_of_id(list: &[Holding], id: u32) -> Option<Holding>
         .find(|holding| is_of_id(holding, id))
 }
 
-fn drop_born(list: &mut Vec<Holding>, born: u32)
-    ensures items { list.new.items ≡ filter (λ holding. not (holding.born == born)) list.old.items }
-    ensures shorter { length list.new.items ≤ length list.old.items }
-    ensures capacity { vec_capacity list.new ≡ vec_capacity list.old }
+// How many holdings are newer than the one that was born at that entry.
+fn newer_than_born(list: &[Holding], born: u32) -> Option<usize>
+    ensures { result ≡ position (λ holding. holding.born == born) (reverse list.now) }
 {
-    list.retain(|holding| !is_born_at(holding, born));
+    list.iter()
+        .rev()
+        .copied()
+        .position(|holding| is_born_at(&holding, born))
+}
+
+// Where the holding stands that was born at that entry.
+fn born_index(list: &[Holding], born: u32) -> Option<usize>
+    ensures there { IfSome result (IsNewest (λ holding. holding.born == born) list.now) }
+    ensures absent { IfNone result (IsAbsent (λ holding. holding.born == born) list.now) }
+{
+    match newer_than_born(list, born) {
+        Some(newer) => Some(list.len() - 1 - newer),
+        None => None,
+    }
+}
+
+// Takes the holding away that stands there, and gives it.
+fn unlink(list: &mut Vec<Holding>, index: usize) -> Holding
+    requires { index < length list.old.items }
+    ensures value { result ≡ slice_index_or list.old.items index result }
+    ensures items { list.new.items ≡ remove list.old.items index }
+    ensures capacity { vec_capacity list.new ≡ vec_capacity list.old }
+    ensures shorter { length list.new.items ≤ length list.old.items }
+{
+    list.remove(index)
+}
+
+// Takes the newest holding away that was born at that entry, if one is there.
+fn drop_born(list: &mut Vec<Holding>, born: u32)
+    ensures items { reverse list.new.items
+        ≡ without_first (λ holding. holding.born == born) (reverse list.old.items) }
+    ensures capacity { vec_capacity list.new ≡ vec_capacity list.old }
+    ensures shorter { length list.new.items ≤ length list.old.items }
+{
+    if let Some(index) = born_index(list, born) {
+        let _dropped = unlink(list, index);
+    }
 }
 
 impl ClassList {
-    /// A list with no holding, and room for 256.
+    /// A list with no holding, and room for all that an owner may hold.
     pub(crate) fn with_room(alloc: Global) -> Result<ClassList, NoMemory>
         ensures { IfOk result (λ list. list ≡ []) }
     {
@@ -115,7 +150,7 @@ impl ClassList {
 
     /// One more holding, the newest.
     pub(crate) fn put(&mut self, holding: Holding)
-        requires room { length self.old < 256 }
+        requires room { length self.old < most_holdings }
         ensures { self.new ≡ holding ∷ self.old }
     {
         self.list.push_reserved(holding);
@@ -129,30 +164,14 @@ impl ClassList {
         ensures shorter { length self.new ≤ length self.old }
     {
         match newest_index(&self.list, id) {
-            Some(index) => Some(self.list.remove(index)),
+            Some(index) => Some(unlink(&mut self.list, index)),
             None => None,
         }
     }
 
-    /// Takes the newest holding away if it was born at that entry, and tells whether it was. No other one of the list was.
-    pub(crate) fn release_newest(&mut self, born: u32) -> bool
-        requires distinct { births_at born self.old ≤ 1 }
-        ensures there { IsTrue result → births_at born self.old ≡ 1 }
-        ensures list { self.new ≡ (if result then without_holding born self.old else self.old) }
-        ensures shorter { length self.new ≤ length self.old }
-    {
-        match self.newest() {
-            Some(holding) if holding.born == born => {
-                let _newest = self.list.pop();
-                true
-            }
-            _ => false,
-        }
-    }
-
-    /// Takes the holding away that was born at that entry, if it is there.
-    #[tactic(auto, using(crate::proofs::Backwards::reverse_filter))]
+    /// Takes the holding away that was born at that entry, if it is there. No other one of the list was born there.
     pub(crate) fn release(&mut self, born: u32)
+        requires distinct { births_at born self.old ≤ 1 }
         ensures list { self.new ≡ without_holding born self.old }
         ensures shorter { length self.new ≤ length self.old }
     {

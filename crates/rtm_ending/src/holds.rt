@@ -1,21 +1,21 @@
 //! All holdings, by owner and class.
 
-ghost use Rattle.std.specs.Prelude.{◌≡◌, ◌+◌, ◌≤◌, ◌<◌, ◌==◌, ◌↔◌, not, ◌∷◌, length, find, fold, map, replicate, slice_set, if◌then◌else◌, vec_len, vec_capacity, IfOk, IfNone, IsErr, OnOk, OnErr, IsTrue, None};
+ghost use Rattle.std.specs.Prelude.{◌≡◌, ◌+◌, ◌≤◌, ◌<◌, ◌==◌, ◌↔◌, ◌∷◌, length, find, replicate, IfOk, IfNone, IsErr, OnOk, OnErr, None};
 ghost use Rattle.std.specs.Option.{ok_or, option_or};
 ghost use Rattle.rtm_model.specs.Ending.{no_holdings, held_count, holdings_of, on_owner, on_class, of_class, newer_holding, newest_held, newest_of_all, next_release, newest_equal, after_get, after_free, after_release, AreHeldBefore};
+ghost use Rattle.rtm_model.specs.Limits.{most_holdings};
 ghost use Rattle.rtm_ending.specs.Refused.{not_held};
 ghost use Rattle.rtm_ending.specs.View.{HoldsView, births_among};
 
-use crate::class_list::MOST_HOLDINGS;
 use crate::owner_lists::OwnerLists;
 use crate::refused::NotHeld;
 use rtm_codes::NoMemory;
 use rtm_deck_items::Deck;
-use rtm_model::{Full, Holding, Res};
+use rtm_model::{Full, Holding, MOST_HOLDINGS, Res};
 use std::alloc::Global;
 use std::marker::Model;
 
-/// What the units and the master hold, at most 256 each (this profile).
+/// What the units and the master hold, at most `MOST_HOLDINGS` each.
 ///
 /// A contract sees the number of units, and for each unit, in order, and for the master, which comes last, its holdings of
 /// each class, newest first. A holding's birth is the index of the entry that made it, and an owner is a unit's number, or
@@ -70,7 +70,7 @@ fn newest_of_all(owners: &[OwnerLists], class: Res) -> Option<Holding>
 
 fn put_in(owners: &mut Vec<OwnerLists>, holding: Holding)
     requires within { holding.owner < length owners.old.items }
-    requires room { held_count (holdings_of holding.owner owners.old.items) < 256 }
+    requires room { held_count (holdings_of holding.owner owners.old.items) < most_holdings }
     ensures { owners.new.items ≡ after_get holding owners.old.items }
 {
     owners[holding.owner as usize].put(holding);
@@ -87,21 +87,9 @@ fn take_from(owners: &mut Vec<OwnerLists>, owner: u16, class: Res, id: u32) -> O
     owners[owner as usize].take(class, id)
 }
 
-// Takes the holding away that was born at that entry, where it is the newest of its owner and class.
-fn release_newest(owners: &mut [OwnerLists], born: u32) -> bool
+// Takes the holding away that was born at that entry, whoever holds it.
+fn release_in(owners: &mut [OwnerLists], born: u32)
     requires { births_among born owners.old ≤ 1 }
-    ensures { owners.new ≡ (if result then after_release born owners.old else owners.old) }
-{
-    for lists in owners.iter_mut() {
-        if lists.release_newest(born) {
-            return true;
-        }
-    }
-    false
-}
-
-// Takes the holding away that was born at that entry, wherever it is.
-fn release_anywhere(owners: &mut [OwnerLists], born: u32)
     ensures { owners.new ≡ after_release born owners.old }
 {
     for lists in owners.iter_mut() {
@@ -109,18 +97,8 @@ fn release_anywhere(owners: &mut [OwnerLists], born: u32)
     }
 }
 
-// Takes the holding away that was born at that entry: mostly it is the newest of its owner and class.
-fn release_in(owners: &mut [OwnerLists], born: u32)
-    requires { births_among born owners.old ≤ 1 }
-    ensures { owners.new ≡ after_release born owners.old }
-{
-    if !release_newest(owners, born) {
-        release_anywhere(owners, born);
-    }
-}
-
 impl Holds {
-    /// Nothing held, and room for 256 holdings of each unit of the deck and of the master.
+    /// Nothing held, and room for all that each unit of the deck and the master may hold.
     pub fn with_room(alloc: Global, deck: &Deck) -> Result<Holds, NoMemory>
         ensures { IfOk result (λ holds. holds ≡ record {
           units = length deck.now.units;
@@ -132,7 +110,8 @@ impl Holds {
 
     /// The same for so many units.
     pub(crate) fn of_units(alloc: Global, units: u16) -> Result<Holds, NoMemory>
-        ensures { IfOk result (λ holds. holds ≡ record { units = units; owners = replicate (units + 1) no_holdings }) }
+        ensures { IfOk result
+            (λ holds. holds ≡ record { units = units; owners = replicate (units + 1) no_holdings }) }
     {
         let owners = owners_with_room(alloc, units as usize + 1)?;
         Ok(Holds { units, owners })
@@ -140,7 +119,7 @@ impl Holds {
 
     /// Whether the owner has as many holdings as it may have, so that its GET is the error EE4 (this profile).
     pub fn is_full(&self, owner: u16) -> bool
-        ensures { result ≡ (held_count (holdings_of owner self.now.owners) == 256) }
+        ensures { result ≡ (held_count (holdings_of owner self.now.owners) == most_holdings) }
     {
         match self.owners.get(owner as usize) {
             Some(lists) => lists.count() == MOST_HOLDINGS,
@@ -148,12 +127,14 @@ impl Holds {
         }
     }
 
-    /// GET: one more holding, the newest of all. `Full` where its owner has 256.
+    /// GET: one more holding, the newest of all. `Full` where its owner has as many as it may have.
     pub fn get(&mut self, holding: Holding) -> Result<(), Full>
         requires owner { holding.owner ≤ self.old.units }
         requires newest { AreHeldBefore holding.born self.old.owners }
-        ensures full { IsErr result ↔ (held_count (holdings_of holding.owner self.old.owners) ≡ 256) }
-        ensures ok { OnOk result (self.new ≡ record self.old { owners = after_get holding self.old.owners }) }
+        ensures full { IsErr result
+            ↔ (held_count (holdings_of holding.owner self.old.owners) ≡ most_holdings) }
+        ensures ok { OnOk result
+            (self.new ≡ record self.old { owners = after_get holding self.old.owners }) }
         ensures err { OnErr result (self.new ≡ self.old) }
     {
         if self.owners[holding.owner as usize].count() == MOST_HOLDINGS {
@@ -177,7 +158,8 @@ impl Holds {
     /// no such unit.
     pub fn free(&mut self, unit: u16, class: Res, id: u32) -> Result<Holding, NotHeld>
         ensures which { result ≡ ok_or (newest_equal unit class id self.old.owners) not_held }
-        ensures holds { self.new ≡ record self.old { owners = after_free unit class id self.old.owners } }
+        ensures holds { self.new
+            ≡ record self.old { owners = after_free unit class id self.old.owners } }
         ensures err { OnErr result (self.new ≡ self.old) }
     {
         match take_from(&mut self.owners, unit, class, id) {

@@ -7,6 +7,7 @@ mod holds;
 mod managers;
 mod owner_lists;
 mod refused;
+mod send;
 #[cfg(test)]
 mod tests;
 
@@ -15,3 +16,4 @@ pub use holds::Holds;
 pub use managers::Managers;
 pub use refused::{NotFound, NotHeld};
 pub use rtm_model::{Full, Holding, Manager1, Res};
+pub use send::types_are_send;

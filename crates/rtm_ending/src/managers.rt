@@ -3,20 +3,18 @@
 ghost use Rattle.std.specs.Prelude.{◌≡◌, ◌≤◌, ◌==◌, ◌↔◌, not, [], ◌∷◌, length, reverse, filter, find, position, vec_capacity, IfOk, IfSome, IfNone, IsErr, OnOk, OnErr, Some};
 ghost use Rattle.std.specs.Option.{ok_or};
 ghost use Rattle.rtm_model.specs.Ending.{is_same_task, is_of_task, is_equal_manager, newest_manager, after_delete, next_manager, without_manager, without_managers_of};
-ghost use Rattle.rtm_ending.specs.Newest.{IsNewest, IsAbsent};
+ghost use Rattle.rtm_model.specs.Limits.{most_managers};
+ghost use Rattle.rtm_model.specs.inner.Newest.{IsNewest, IsAbsent};
 ghost use Rattle.rtm_ending.specs.Refused.{not_found};
 
 use crate::refused::NotFound;
 use rtm_codes::NoMemory;
-use rtm_model::{Full, Manager1};
+use rtm_model::{Full, MOST_MANAGERS, Manager1};
 use std::alloc::Global;
 use std::marker::Model;
 
-// At most this many living resource managers (this profile).
-const MOST_MANAGERS: usize = 64;
-
 /// The resource managers of all tasks and of the address space (Authorized Assembler Services Guide, "Using resource
-/// managers"), at most 64 (this profile).
+/// managers"), at most `MOST_MANAGERS`.
 ///
 /// A contract sees them as one list, newest first. A manager's birth is the index of the entry that added it. In each call
 /// the task is a unit's number, and None means the address space.
@@ -28,12 +26,14 @@ pub struct Managers {
 impl Model for Managers {
     ghost use Rattle.std.specs.Prelude.{◌≤◌, List, length, reverse, vec_capacity};
     ghost use Rattle.rtm_model.specs.declared.holding.Manager1.{Manager1};
+    ghost use Rattle.rtm_model.specs.Limits.{most_managers};
 
     ghost Value = { List Manager1 };
 
     ghost view = { λ a. reverse a.list.items };
 
-    ghost invariant = { λ a. (length a.list.items ≤ 64) × (64 ≤ vec_capacity a.list) };
+    ghost invariant = { λ a. (length a.list.items ≤ most_managers)
+        × (most_managers ≤ vec_capacity a.list) };
 }
 
 fn is_same_task(one: Option<u16>, other: Option<u16>) -> bool
@@ -121,7 +121,8 @@ fn drop_born(list: &mut Vec<Manager1>, born: u32)
 }
 
 fn drop_task(list: &mut Vec<Manager1>, task: u16)
-    ensures items { list.new.items ≡ filter (λ manager. not (is_of_task (Some task) manager)) list.old.items }
+    ensures items { list.new.items
+        ≡ filter (λ manager. not (is_of_task (Some task) manager)) list.old.items }
     ensures shorter { length list.new.items ≤ length list.old.items }
     ensures capacity { vec_capacity list.new ≡ vec_capacity list.old }
 {
@@ -129,7 +130,7 @@ fn drop_task(list: &mut Vec<Manager1>, task: u16)
 }
 
 impl Managers {
-    /// No manager, and room for 64.
+    /// No manager, and room for as many as may be.
     pub fn with_room(alloc: Global) -> Result<Managers, NoMemory>
         ensures { IfOk result (λ managers. managers ≡ []) }
     {
@@ -140,14 +141,14 @@ impl Managers {
 
     /// Whether there are as many managers as there may be, so that RESMGR ADD is the error EE5 (this profile).
     pub fn is_full(&self) -> bool
-        ensures { result ≡ (length self.now == 64) }
+        ensures { result ≡ (length self.now == most_managers) }
     {
         self.list.len() == MOST_MANAGERS
     }
 
-    /// RESMGR ADD: one more manager, the newest. `Full` where 64 are there, of tasks and of the address space together.
+    /// RESMGR ADD: one more manager, the newest. `Full` where as many are there as may be, of tasks and of the address space together.
     pub fn add(&mut self, mgr: Manager1) -> Result<(), Full>
-        ensures full { IsErr result ↔ (length self.old ≡ 64) }
+        ensures full { IsErr result ↔ (length self.old ≡ most_managers) }
         ensures ok { OnOk result (self.new ≡ mgr ∷ self.old) }
         ensures err { OnErr result (self.new ≡ self.old) }
     {

@@ -1,8 +1,9 @@
 //! The holdings of one owner, by class.
 
-ghost use Rattle.std.specs.Prelude.{◌≡◌, ◌<◌, ◌≤◌, ◌==◌, ◌∷◌, length, find, if◌then◌else◌, IfOk, IfNone, IsTrue};
+ghost use Rattle.std.specs.Prelude.{◌≡◌, ◌<◌, ◌≤◌, ◌==◌, ◌∷◌, length, find, IfOk, IfNone};
 ghost use Rattle.rtm_model.specs.Chains.{without_first};
 ghost use Rattle.rtm_model.specs.Ending.{no_holdings, of_class, on_class, held_count, is_of_id, first_by_class, newest_held, owner_after_release};
+ghost use Rattle.rtm_model.specs.Limits.{most_holdings};
 ghost use Rattle.rtm_ending.specs.View.{births_of};
 
 use crate::class_list::ClassList;
@@ -11,7 +12,7 @@ use rtm_model::{Holding, Res};
 use std::alloc::Global;
 use std::marker::Model;
 
-/// What an owner holds, at most 256 in all: a list for each class.
+/// What an owner holds, at most `MOST_HOLDINGS` in all: a list for each class.
 #[derive(Drop)]
 pub(crate) struct OwnerLists {
     enq: ClassList,
@@ -23,16 +24,18 @@ pub(crate) struct OwnerLists {
 impl Model for OwnerLists {
     ghost use Rattle.std.specs.Prelude.{◌+◌, ◌≤◌, length};
     ghost use Rattle.rtm_model.specs.Ending.{Holdings};
+    ghost use Rattle.rtm_model.specs.Limits.{most_holdings};
 
     ghost Value = { Holdings };
 
     ghost view = { λ a. record { enq = a.enq; stor = a.stor; dsn = a.dsn; timr = a.timr } };
 
-    ghost invariant = { λ a. length a.enq + length a.stor + length a.dsn + length a.timr ≤ 256 };
+    ghost invariant = { λ a.
+        length a.enq + length a.stor + length a.dsn + length a.timr ≤ most_holdings };
 }
 
 impl OwnerLists {
-    /// No holding, and room for 256 of each class.
+    /// No holding, and room for all that an owner may hold.
     pub(crate) fn with_room(alloc: Global) -> Result<OwnerLists, NoMemory>
         ensures { IfOk result (λ lists. lists ≡ no_holdings) }
     {
@@ -47,7 +50,7 @@ impl OwnerLists {
     /// How many holdings there are, of all classes.
     pub(crate) fn count(&self) -> usize
         ensures value { result ≡ held_count self.now }
-        ensures most { result ≤ 256 }
+        ensures most { result ≤ most_holdings }
     {
         self.enq.len() + self.stor.len() + self.dsn.len() + self.timr.len()
     }
@@ -90,7 +93,7 @@ impl OwnerLists {
 
     /// One more holding, the newest of its class.
     pub(crate) fn put(&mut self, holding: Holding)
-        requires room { held_count self.old < 256 }
+        requires room { held_count self.old < most_holdings }
         ensures { self.new ≡ on_class holding.class (λ held. holding ∷ held) self.old }
     {
         match holding.class {
@@ -115,28 +118,9 @@ impl OwnerLists {
         }
     }
 
-    /// Takes the holding away that was born at that entry, if it is the newest of its class, and tells whether it is. No
-    /// other one was born there.
-    #[tactic(auto, using(crate::proofs::Births::not_there))]
-    pub(crate) fn release_newest(&mut self, born: u32) -> bool
-        requires { births_of born self.old ≤ 1 }
-        ensures there { IsTrue result → births_of born self.old ≡ 1 }
-        ensures lists { self.new ≡ (if result then owner_after_release born self.old else self.old) }
-    {
-        if self.enq.release_newest(born) {
-            return true;
-        }
-        if self.stor.release_newest(born) {
-            return true;
-        }
-        if self.dsn.release_newest(born) {
-            return true;
-        }
-        self.timr.release_newest(born)
-    }
-
-    /// Takes the holding away that was born at that entry, if it is there.
+    /// Takes the holding away that was born at that entry, if it is there. No other one was born there.
     pub(crate) fn release(&mut self, born: u32)
+        requires { births_of born self.old ≤ 1 }
         ensures { self.new ≡ owner_after_release born self.old }
     {
         self.enq.release(born);

@@ -6,15 +6,6 @@ ghost use Rattle.rtm_model.specs.Ending.{AreHeldBefore};
 use crate::{Act, Full, Holding, Holds, Manager1, Managers, NotFound, Res, next_act};
 use std::test::Fail;
 
-fn is_send<T: Send>() {}
-
-#[test]
-fn lists_may_move_to_another_thread() {
-    is_send::<Holds>();
-    is_send::<Managers>();
-    is_send::<Act>();
-}
-
 #[derive(Clone, Copy, Debug)]
 enum HoldStep {
     Get(Res, u32, u16),

@@ -13,8 +13,8 @@ pub(crate) fn is_listed(fail: &[u32], call: u64) -> bool
     fail.iter().any(|number| u64::from(*number) == call)
 }
 
-/// How many bytes a call of the system moved. An error is a fault, which is counted, an
-/// interruption too, and so are fewer bytes than `least`.
+/// How many bytes a call of the system moved. Each error is a fault, which is counted, also an
+/// interruption; and so is a call that moved fewer bytes than `least`.
 pub(crate) fn bytes_moved(
     answer: io::Result<usize>,
     least: usize,

@@ -28,7 +28,7 @@ impl<W> Model for StdSink<W> {
 }
 
 impl<W> StdSink<W> {
-    /// A writer, of which no call has failed.
+    /// The sink over that writer. No call of it has failed so far.
     pub fn over(output: W) -> StdSink<W>
         ensures stream { result.stream ≡ output }
         ensures faults { result.faults ≡ 0 }

@@ -28,7 +28,7 @@ impl<R> Model for StdSource<R> {
 }
 
 impl<R> StdSource<R> {
-    /// A reader, of which no call has failed.
+    /// The source over that reader. No call of it has failed so far.
     pub fn over(input: R) -> StdSource<R>
         ensures stream { result.stream ≡ input }
         ensures faults { result.faults ≡ 0 }

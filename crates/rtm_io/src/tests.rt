@@ -11,20 +11,6 @@ use std::test::Fail;
 // A limit that no input below passes.
 const AMPLE: usize = 1 << 20;
 
-// Each public type may move to another thread.
-fn may_move<T: Send>() {}
-
-#[test]
-fn each_type_may_move() {
-    may_move::<Failed>();
-    may_move::<InFault>();
-    may_move::<RoomFault>();
-    may_move::<MemSource>();
-    may_move::<MemSink>();
-    may_move::<StdSource>();
-    may_move::<StdSink>();
-}
-
 // Gives two bytes a read, at most, and tells none.
 #[derive(Drop)]
 struct Trickle(MemSource);

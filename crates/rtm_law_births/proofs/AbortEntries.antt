@@ -1,13 +1,12 @@
 -- Births and deaths of pending aborts at each entry, and so in a history.
-use Rattle.std.proofs.Common.{◌≡◌, ℕ, zero, suc, ◌<◌, ◌≤◌, ◌+◌, Bool, true, false, not, ◌||◌, List, [], ◌∷◌, ◌++◌, length, Option, Some, None, refl, sym, ap, subst, arith, ◌⊎◌, ◌∙◌}
-use Rattle.std.proofs.lemmas.Bool.{eqb-true}
+use Rattle.std.proofs.Common.{◌≡◌, ℕ, ◌<◌, ◌≤◌, ◌+◌, Bool, true, false, not, ◌||◌, List, [], ◌∷◌, ◌++◌, length, Option, Some, None, refl, sym, ap, subst, arith, ◌⊎◌, ◌∙◌}
+use Rattle.std.proofs.lemmas.Bool.{eqb-false, eqb-true}
 use Rattle.std.proofs.lemmas.List.{length-set}
 use Rattle.std.specs.Prelude.{IfSome, IsSomeAnd, if◌then◌else◌, is_some, map, slice_get, ◌==◌}
 use Rattle.rtm_codes.specs.declared.code.Code.{Code}
 use Rattle.rtm_deck_items.specs.Reading.{job_step, op_at, program_of}
 use Rattle.rtm_deck_items.specs.View.{DeckView}
 use Rattle.rtm_deck_items.specs.declared.deck.Command.{Command}
-use Rattle.rtm_deck_items.specs.declared.deck.Unit.{Unit as UnitCard}
 use Rattle.rtm_model.specs.declared.abort.Abort.{Abort}
 use Rattle.rtm_model.specs.declared.entry.Class.TheVariants as classes
 use Rattle.rtm_model.specs.declared.entry.Fate.{Fate}
@@ -17,22 +16,24 @@ use Rattle.rtm_model.specs.declared.entry.What.TheVariants as whats
 use Rattle.rtm_model.specs.declared.error_record.ErrorRecord.{ErrorRecord}
 use Rattle.rtm_model.specs.Aborts.{after_landing, has_class}
 use Rattle.rtm_model.specs.Arrivals.{goes_on}
-use Rattle.rtm_model.specs.Births.{after_arrival, after_done, cancel_abort, cause_of, mother_abort, own_change, post_to, post_to_subtasks, purged_core, with_posted, without_living}
+use Rattle.rtm_model.specs.Posts.{cancel_abort, mother_abort, post_to, post_to_subtasks, with_posted}
+use Rattle.rtm_model.specs.OwnChange.{own_change}
+use Rattle.rtm_model.specs.Advance.{after_arrival, after_done, cause_of, purged_core, without_living}
 use Rattle.rtm_model.specs.Moments.{IsIn}
 use Rattle.rtm_model.specs.NextEntry.{landed_record}
 use Rattle.rtm_model.specs.Surroundings.{fate_in, is_late, surroundings_at}
 use Rattle.rtm_model.specs.Record.{mark_of}
-use Rattle.rtm_model.specs.Soundness.{ArePending, IsSound}
+use Rattle.rtm_model.specs.inner.Soundness.{ArePending, IsSound}
 use Rattle.rtm_model.specs.Tasks.{Life, Tree, ended_life, is_living, is_subtask_of, life_of}
 use Rattle.rtm_model.specs.World.{Beginning, Core, UnitOfWork, World, at_birth, core_at, on_unit, related_task, unborn_unit, unit_at, units_at_start}
+use Rattle.rtm_model.proofs.Units.{length-on_unit, unit_here, unit_same, unit_there}
+use Rattle.rtm_model.proofs.Start.{all_unborn}
 use Rattle.rtm_law_births.specs.Aborts.{CommandPosts, IsQueued, MotherPosts, PendingAbort, RelatedPosts, StepPosts, aborts}
-use Rattle.rtm_law_births.proofs.Aborts.{arrives, card, card_begins, card_pending, cleared, ends, landed_list, late_after, posts_like, same_lists, unit_moves}
+use Rattle.rtm_law_births.proofs.Aborts.{arrives, card, card_begins, card_pending, ends, landed_list, late_after, posts_like, same_lists, unit_moves}
 use Rattle.rtm_law_births.proofs.Beyond.{own}
-use Rattle.rtm_law_births.proofs.Living.{Changes, Follows, IsMade, Moves, death_then, said_by, same_list, unmoved}
-use Rattle.rtm_law_births.proofs.Numbers.{not_equal}
+use Rattle.rtm_law_births.proofs.Living.{Changes, Follows, IsMade, Moves, cleared, death_then, said_by, same_list, unmoved}
 use Rattle.rtm_law_births.proofs.Outcomes.{FatesAre, outcome_of, row_of}
 use Rattle.rtm_law_births.proofs.Posts.{mothered, mothered_at, pending_of, posted_list, same_late, subtask_lives}
-use Rattle.rtm_law_births.proofs.Units.{length_units, unit_here, unit_same, unit_there}
 
 -- A task begins to end
 
@@ -69,7 +70,7 @@ module _ (x : PendingAbort) (n u : ℕ) (w : World) where
         let same = eqb-true x.target u e in
         late_if (unit_at x.target units) (is_subtask_of u (life_of x.target (Tree.lives w.tree))) (subst (λ (v : ℕ). is_some (Core.begun (UnitOfWork.core (unit_at v units))) ≡ true) (sym same) here) same
     mothers_if false e =
-        let other = not_equal x.target u e in
+        let other = eqb-false x.target u e in
         mother_if (life_of x.target (Tree.lives w.tree)) (unit_at x.target units) (is_subtask_of u (life_of x.target (Tree.lives w.tree))) refl (sym (there x.target other)) refl other
 
     mothers : Moves (IsIn x.abort (pending_of x.target (post_to_subtasks u (mother_abort n) (Tree.lives w.tree) units))) (IsIn x.abort (pending_of x.target units)) (MotherPosts w n u x) ⊥
@@ -103,7 +104,7 @@ module _ (d : DeckView) (w : World) (n u : ℕ) (x : PendingAbort) where
   unit_within s h = omega (arith, s.units_len, h)
 
   lens : IsSound d n w → (f : UnitOfWork → UnitOfWork) → length (Tree.lives w.tree) ≤ length (on_unit u f w.units)
-  lens s f = omega (arith, s.units_len, s.lives_len, length_units u f w.units)
+  lens s f = omega (arith, s.units_len, s.lives_len, length-on_unit u f w.units)
 
   -- the end of a unit
   done_moves : (code : Code) (to_task to_step : Option Fate) → IsSound d n w → (o : Option Beginning) → Core.begun (core_at u w) ≡ o → IsSomeAnd o (λ begun. begun.code ≡ code) → FatesAre d w u to_task to_step o
@@ -125,14 +126,11 @@ module _ (d : DeckView) (w : World) (n u : ℕ) (x : PendingAbort) where
       card d n u rc w x (World.units (own d w n u (whats.Exec at rc))) (lens m.sound (own_change d n w.managers (whats.Exec at rc)))
       (card_pending d w n u at rc) (card_begins d w n u at rc) (op_at d at.prog at.op)
       (row_of (core_at u w) (surroundings_at d w u (op_at d at.prog at.op)) (op_at d at.prog at.op) rc (outcome_of d w u (whats.Exec at rc) m.may))
-  entry (whats.Error at mark) m = own_same (whats.Error at mark) (λ unit. refl)
   entry (whats.Land class from mark) m =
       said_by (λ h. h) (λ h. h) (λ h. h) (λ h. h) (λ h. h) (λ h. h) (λ h. (sym h.0, h.1.0, h.1.1)) (λ h. (sym h.0, (h.1, h.2)))
-      (unit_moves x.abort x.target u (own_change d n w.managers (whats.Land class from mark)) after_landing w.units (unit_within m.sound m.can.unit)
+      (unit_moves x.abort x.target u (own_change d n w.managers (whats.Land class from mark)) (after_landing class from) w.units (unit_within m.sound m.can.unit)
       ((class ≡ Abort.class x.abort) × (from ≡ Abort.from x.abort)) (λ unit. refl)
       (landed_list x.abort (pending_of u w.units) class from (λ first. mark ≡ mark_of (landed_record first)) m.can.what.2 (ArePending.distinct (IsSound.pending m.sound u))))
-  entry (whats.Enter kind reg mark) m = own_same (whats.Enter kind reg mark) (λ unit. refl)
-  entry (whats.Leave kind reg verdict logrec dump) m = own_same (whats.Leave kind reg verdict logrec dump) (λ unit. refl)
   entry (whats.Arrive cmd became) m =
       let pend : (v : ℕ) → pending_of v (World.units (own d w n u (whats.Arrive cmd became))) ≡ pending_of v w.units = λ v. unit_same UnitOfWork.pending (own_change d n w.managers (whats.Arrive cmd became)) (λ unit. refl) u v w.units in
       let begins : Core.begun (core_at u (own d w n u (whats.Arrive cmd became))) ≡ Core.begun (core_at u w) = unit_same (λ (unit : UnitOfWork). Core.begun unit.core) (own_change d n w.managers (whats.Arrive cmd became)) (λ unit. refl) u u w.units in
@@ -148,26 +146,19 @@ module _ (d : DeckView) (w : World) (n u : ℕ) (x : PendingAbort) where
       (mothers x n u w (on_unit u change w.units) (lens m.sound change)
       (ap (λ (unit : UnitOfWork). is_some (Core.begun unit.core)) (unit_here u change w.units inside))
       (λ v other. unit_there u v change w.units other))
-  entry (whats.Release class id owner) m = own_same (whats.Release class id owner) (λ unit. refl)
   entry (whats.Done code to_task to_step) m =
       done_moves code to_task to_step m.sound (Core.begun (core_at u w)) refl m.can.what.1 (outcome_of d w u (whats.Done code to_task to_step) m.may) _
       (ap cause_of (unit_same (λ (unit : UnitOfWork). Core.begun unit.core) (own_change d n w.managers (whats.Done code to_task to_step)) (λ unit. refl) u u w.units))
   entry (whats.Purge unit) m =
       let purge : UnitOfWork → UnitOfWork = λ unit. record unit { core = purged_core unit.core; pending = [] } in
       let units : List UnitOfWork = on_unit u (own_change d n w.managers (whats.Purge unit)) w.units in
-      let there : unit < length units = omega (arith, m.can.what.0, IsSound.units_len m.sound, length_units u (own_change d n w.managers (whats.Purge unit)) w.units) in
+      let there : unit < length units = omega (arith, m.can.what.0, IsSound.units_len m.sound, length-on_unit u (own_change d n w.managers (whats.Purge unit)) w.units) in
       let pend : pending_of x.target units ≡ pending_of x.target w.units = unit_same UnitOfWork.pending (own_change d n w.managers (whats.Purge unit)) (λ unit. refl) u x.target w.units in
       said_by (λ h. h) (λ h. h) (λ h. subst (IsIn x.abort) pend h) (λ h. subst (IsIn x.abort) (sym pend) h) (λ h. h) (λ h. h) (λ h. sym h.0) (λ h. (sym h, tt))
       (unit_moves x.abort x.target unit purge (λ p. []) units there (Unit {0}) (λ unit. refl) (cleared x.abort (pending_of unit units)))
-  entry whats.MemEnd m = own_same whats.MemEnd (λ unit. refl)
+  entry what m = own_same what (λ unit. refl)
 
 -- at the start no abort is pending
-pub all_unborn : (cards : List UnitCard) (v : ℕ) → unit_at v (map (λ card. unborn_unit) cards ++ unborn_unit ∷ []) ≡ unborn_unit
-all_unborn [] zero = refl
-all_unborn [] (suc v) = refl
-all_unborn (card ∷ cards) zero = refl
-all_unborn (card ∷ cards) (suc v) = all_unborn cards v
-
 pub none_at_start : (d : DeckView) (v : ℕ) → pending_of v (units_at_start d) ≡ []
 none_at_start d v =
     unit_same UnitOfWork.pending (at_birth 0 (program_of d (job_step d)) []) (λ unit. refl) (job_step d) v (map (λ card. unborn_unit) d.units ++ unborn_unit ∷ [])

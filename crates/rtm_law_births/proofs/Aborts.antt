@@ -1,9 +1,9 @@
 -- Births and deaths of pending aborts, entry by entry.
 use Rattle.std.proofs.Common.{◌≡◌, ℕ, ◌<◌, ◌≤◌, Bool, true, false, not, ◌&&◌, ◌||◌, List, [], ◌∷◌, length, Option, Some, None, refl, sym, ap, subst, arith, inl, inr, ◌⊎◌, ◌∙◌}
-use Rattle.std.proofs.lemmas.Bool.{eqb-true}
+use Rattle.std.proofs.lemmas.Bool.{eqb-false, eqb-true, or_right}
 use Rattle.std.proofs.lemmas.List.{get_or-set_other}
 use Rattle.std.specs.Option.{option_map, option_map_or}
-use Rattle.std.specs.Prelude.{IfSome, IsSomeAnd, if◌then◌else◌, is_some, ◌==◌}
+use Rattle.std.specs.Prelude.{IfSome, if◌then◌else◌, is_some, ◌==◌}
 use Rattle.rtm_codes.specs.declared.code.Code.{Code}
 use Rattle.rtm_deck_items.specs.Reading.{job_step, op_at}
 use Rattle.rtm_deck_items.specs.View.{DeckView}
@@ -21,25 +21,24 @@ use Rattle.rtm_model.specs.declared.entry.What.TheVariants as whats
 use Rattle.rtm_model.specs.declared.error_record.ErrorRecord.{ErrorRecord}
 use Rattle.rtm_model.specs.declared.outcome.Outcome.TheVariants.{Executed}
 use Rattle.rtm_model.specs.declared.reg.Reg.{Reg}
-use Rattle.rtm_model.specs.Aborts.{HasDistinctClasses, after_landing, first_abort, has_class, is_same_class}
+use Rattle.rtm_model.specs.Aborts.{HasDistinctClasses, after_landing, has_class, is_same_class}
 use Rattle.rtm_model.specs.Arrivals.{arrival_entry, arrival_fate, is_due}
-use Rattle.rtm_model.specs.Births.{abterm_abort, beyond_card, detach_abort, own_card, own_change, post_related, post_step, post_to, srb_abort, step_abort, with_posted, with_unit}
+use Rattle.rtm_model.specs.Posts.{abterm_abort, detach_abort, post_related, post_step, post_to, srb_abort, step_abort, with_posted}
+use Rattle.rtm_model.specs.OwnChange.{own_change}
+use Rattle.rtm_model.specs.Advance.{beyond_card, with_unit}
 use Rattle.rtm_model.specs.Cards.{fate_rc, fails, row}
 use Rattle.rtm_model.specs.Moments.{IsIn}
 use Rattle.rtm_model.specs.Surroundings.{fate_in, is_late, related_fate, step_fate, surroundings_at}
 use Rattle.rtm_model.specs.Tasks.{Dormant, Life, Tree, is_living, life_of, with_end}
 use Rattle.rtm_model.specs.World.{Core, UnitOfWork, World, at_birth, core_at, lives_in, on_unit, unit_at}
+use Rattle.rtm_model.specs.Blocks.{without_newest}
+use Rattle.rtm_model.proofs.Landing.{IsFirst, behind_first, same_class}
+use Rattle.rtm_model.proofs.Units.{length-on_unit, unit_here, unit_same, unit_there}
+use Rattle.rtm_model.proofs.Cards.{card_begun}
 use Rattle.rtm_law_births.specs.Aborts.{CardPosts, IsQueued, PendingAbort, RelatedPosts, StepPosts}
 use Rattle.rtm_law_births.proofs.Beyond.{own, with_units}
 use Rattle.rtm_law_births.proofs.Living.{Moves, said_by, same_list, first_then, unmoved}
-use Rattle.rtm_law_births.proofs.Numbers.{not_equal}
 use Rattle.rtm_law_births.proofs.Posts.{grows, other_posted, pending_of, posts, queued_by_rc, rc_of_queued, same_fate, same_late}
-use Rattle.rtm_law_births.proofs.Units.{length_units, unit_here, unit_same, unit_there}
-
--- a card leaves how its unit has begun to end
-card_begun : (n : ℕ) (place : Place) (op : Op) (c : Core) → Core.begun (own_card n place op c) ≡ c.begun
-card_begun n place ops.Nop c = refl
-card_begun n place _ c = refl
 
 -- an entry's own change leaves the pending aborts of an entry that isn't a LAND or a BEGIN, and how units have begun to end
 module _ (d : DeckView) (w : World) (n u : ℕ) where
@@ -113,45 +112,25 @@ module _ (a : Abort) (t u : ℕ) (f : UnitOfWork → UnitOfWork) (g : List Abort
       (λ h. subst (λ (i : ℕ). IsIn a (pending_of i units)) same h)
       (λ h. h) (λ h. h) (λ h. (same, h)) (λ h. h.1) moves
   unit_moves_if false e =
-      let other = not_equal t u e in
+      let other = eqb-false t u e in
       said_by (λ h. h) (λ h. h) (λ h. h) (λ h. h) (λ h. h) (λ h. h) (λ h. absurd h) (λ h. other h.0)
       (same_list a (pending_of t units) (pending_of t (on_unit u f units)) (ap UnitOfWork.pending (unit_there u t f units other)))
 
   pub unit_moves : Moves (IsIn a (pending_of t (on_unit u f units))) (IsIn a (pending_of t units)) ⊥ ((t ≡ u) × K)
   unit_moves = unit_moves_if (t == u) refl
 
--- all are gone
-pub cleared : (a : Abort) (p : List Abort) → Moves (IsIn a []) (IsIn a p) ⊥ (Unit {0})
-cleared a p = record {
-  came = λ h. absurd h;
-  born = λ h. absurd h;
-  stays = λ h alive. absurd (alive tt);
-}
-
 -- the first is gone
-class_self : (c : Class) → is_same_class c c ≡ true
-class_self classes.Cancel = refl
-class_self classes.Detach = refl
-class_self classes.Mother = refl
-class_self classes.Step = refl
-class_self classes.Abterm = refl
-class_self classes.Srb = refl
-
-or_true : (b : Bool) → (b || true) ≡ true
-or_true true = refl
-or_true false = refl
-
 has_in : (a : Abort) (p : List Abort) → IsIn a p → has_class a.class p ≡ true
 has_in a [] h = absurd h
 has_in a (b ∷ p) (inl same) =
-    let here : is_same_class a.class b.class ≡ true = subst (λ (x : Abort). is_same_class a.class x.class ≡ true) same (class_self a.class) in
+    let here : is_same_class a.class b.class ≡ true = subst (λ (x : Abort). is_same_class a.class x.class ≡ true) same (same_class a.class) in
     ap (λ (t : Bool). t || has_class a.class p) here
-has_in a (b ∷ p) (inr h) = ap (λ (t : Bool). is_same_class a.class b.class || t) (has_in a p h) ∙ or_true (is_same_class a.class b.class)
+has_in a (b ∷ p) (inr h) = ap (λ (t : Bool). is_same_class a.class b.class || t) (has_in a p h) ∙ or_right (is_same_class a.class b.class) true refl
 
-pub landed_list : (a : Abort) (p : List Abort) (class : Class) (from : ℕ) (M : Abort → Type 0) → IsSomeAnd (first_abort p) (λ first. (first.class ≡ class) × (first.from ≡ from) × M first) → HasDistinctClasses p
-    → Moves (IsIn a (after_landing p)) (IsIn a p) ⊥ ((class ≡ a.class) × (from ≡ a.from))
-landed_list a [] class from M can distinct = absurd can
-landed_list a (b ∷ later) class from M can distinct = record {
+behind_list : (a : Abort) (p : List Abort) (class : Class) (from : ℕ) (M : Abort → Type 0) → IsFirst class from M p → HasDistinctClasses p
+    → Moves (IsIn a (without_newest p)) (IsIn a p) ⊥ ((class ≡ a.class) × (from ≡ a.from))
+behind_list a [] class from M can distinct = absurd can
+behind_list a (b ∷ later) class from M can distinct = record {
   came = λ h. inr (
     inr h,
     λ killed.
@@ -167,6 +146,11 @@ landed_list a (b ∷ later) class from M can distinct = record {
     | inr more ↦ more
   ];
 }
+
+pub landed_list : (a : Abort) (p : List Abort) (class : Class) (from : ℕ) (M : Abort → Type 0) → IsFirst class from M p → HasDistinctClasses p
+    → Moves (IsIn a (after_landing class from p)) (IsIn a p) ⊥ ((class ≡ a.class) × (from ≡ a.from))
+landed_list a p class from M can distinct =
+    subst (λ (q : List Abort). Moves (IsIn a q) (IsIn a p) ⊥ ((class ≡ a.class) × (from ≡ a.from))) (sym (behind_first class from M p can)) (behind_list a p class from M can distinct)
 
 -- A command that arrives
 
@@ -188,19 +172,16 @@ arrives d w n cmd u cmd2 became quiet (Some command) e = arrives_if d w cmd u cm
 
 -- A unit's end
 
-if_late : (b c : Bool) → c ≡ true → (b || c) ≡ true
-if_late b c e = ap (λ (t : Bool). b || t) e ∙ or_true b
-
 module _ (w w1 : World) (u : ℕ) (ended : Tree.lives w1.tree ≡ with_end u (Tree.lives w.tree)) (begun : (v : ℕ) → Core.begun (core_at v w1) ≡ Core.begun (core_at v w)) (has : is_some (Core.begun (core_at u w)) ≡ true) where
   late_if : (t : ℕ) (b : Bool) → (t == u) ≡ b → is_late w1 t ≡ is_late w t
   late_if t true e =
       let same = eqb-true t u e in
       let now : is_some (Core.begun (core_at t w)) ≡ true = rw same has in
       let after : is_some (Core.begun (core_at t w1)) ≡ true = ap is_some (begun t) ∙ now in
-      if_late (not (lives_in w1 t)) _ after ∙ sym (if_late (not (lives_in w t)) _ now)
+      or_right (not (lives_in w1 t)) _ after ∙ sym (or_right (not (lives_in w t)) _ now)
   late_if t false e =
       let life : life_of t (Tree.lives w1.tree) ≡ life_of t (Tree.lives w.tree) =
-      ap (life_of t) ended ∙ get_or-set_other (Tree.lives w.tree) u t _ Dormant (not_equal t u e) in
+      ap (life_of t) ended ∙ get_or-set_other (Tree.lives w.tree) u t _ Dormant (eqb-false t u e) in
       ap (λ (l : Life). not (is_living l) || is_some (Core.begun (core_at t w1))) life
       ∙ ap (λ (b : Bool). not (lives_in w t) || b) (ap is_some (begun t))
 
@@ -238,7 +219,7 @@ module _ (d : DeckView) (n u : ℕ) (w w1 : World) (x : PendingAbort)
   lens_related : (rel : Option ℕ) (cause : Option ErrorRecord) → length (Tree.lives (World.tree (post_related n rel cause w1))) ≤ length (World.units (post_related n rel cause w1))
   lens_related None cause = lens
   lens_related (Some task) None = lens
-  lens_related (Some task) (Some r) = omega (arith, lens, length_units task (with_posted (is_late w1 task) (srb_abort n r)) w1.units)
+  lens_related (Some task) (Some r) = omega (arith, lens, length-on_unit task (with_posted (is_late w1 task) (srb_abort n r)) w1.units)
 
   step_if : (w2 : World) (r : ErrorRecord) (to_step : Option Fate) (is_job ends : Bool)
       → length (Tree.lives w2.tree) ≤ length w2.units

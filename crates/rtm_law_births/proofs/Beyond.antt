@@ -5,7 +5,9 @@ use Rattle.rtm_deck_items.specs.View.{DeckView}
 use Rattle.rtm_deck_items.specs.declared.deck.Command.{Command}
 use Rattle.rtm_model.specs.declared.entry.What.{What}
 use Rattle.rtm_model.specs.declared.error_record.ErrorRecord.{ErrorRecord}
-use Rattle.rtm_model.specs.Births.{after_arrival, own_change, post_related, post_step}
+use Rattle.rtm_model.specs.Posts.{post_related, post_step}
+use Rattle.rtm_model.specs.OwnChange.{own_change}
+use Rattle.rtm_model.specs.Advance.{after_arrival}
 use Rattle.rtm_model.specs.World.{UnitOfWork, World, on_unit}
 
 -- the world when the entry's own unit is changed

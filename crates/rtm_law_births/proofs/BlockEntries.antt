@@ -1,5 +1,6 @@
 -- Births and deaths of request blocks, and their places, entry by entry.
 use Rattle.std.proofs.Common.{◌≡◌, ℕ, suc, ◌<◌, ◌≤◌, ◌+◌, ◌-◌, Bool, true, false, cond, ◌&&◌, List, [], ◌∷◌, length, Option, Some, None, refl, sym, ap, subst, arith, inl, inr, ◌⊎◌, ◌∙◌}
+use Rattle.std.proofs.lemmas.Bool.{eq-eqb}
 use Rattle.std.proofs.lemmas.Bool.Decides.{nat_tests}
 use Rattle.std.specs.List.{last_or}
 use Rattle.std.specs.Prelude.{find, if◌then◌else◌, is_some, ◌==◌}
@@ -15,18 +16,20 @@ use Rattle.rtm_model.specs.declared.outcome.Outcome.TheVariants.{Executed}
 use Rattle.rtm_model.specs.declared.reg.Kind.{Kind}
 use Rattle.rtm_model.specs.declared.reg.Kind.TheVariants.{Estae, Estai, Frr, Mgr}
 use Rattle.rtm_model.specs.declared.reg.Reg.{Reg}
-use Rattle.rtm_model.specs.Births.{after_retry, block_birth, own_card, place_after, with_landed, with_routine_entered}
+use Rattle.rtm_model.specs.Births.{block_birth}
+use Rattle.rtm_model.specs.OwnChange.{after_retry, own_card, place_after, with_landed, with_routine_entered}
 use Rattle.rtm_model.specs.Blocks.{after_return, birth_or_zero, block_of, cut_to, first_place, has_full_bracket, has_one_block, in_newest_bracket, is_block_of, newest_birth, newest_bracket, oldest, with_linked, with_newest_at, with_place, without_bracket, without_newest}
 use Rattle.rtm_model.specs.Cards.{row, too_many_blocks}
-use Rattle.rtm_model.specs.Levels.{Bracket, at_enclosing, at_innermost, on_record, recovers, with_open}
+use Rattle.rtm_model.specs.Levels.{Bracket, at_innermost, with_open}
 use Rattle.rtm_model.specs.Moments.{before}
 use Rattle.rtm_model.specs.NextEntry.{landed_record, retry_birth, retry_birth_of}
 use Rattle.rtm_model.specs.Surroundings.{surroundings_at}
-use Rattle.rtm_model.specs.Record.{setrp_in}
-use Rattle.rtm_model.specs.Soundness.{BlocksFall, BracketsFall, IsCoreSound, oldest_or}
+use Rattle.rtm_model.specs.Record.{ret15_in, setrp_in}
+use Rattle.rtm_model.specs.inner.Soundness.{BlocksFall, BracketsFall, IsCoreSound, oldest_or}
 use Rattle.rtm_model.specs.World.{Core, World, core_at}
+use Rattle.rtm_model.specs.declared.error_record.ErrorRecord.{ErrorRecord}
+use Rattle.rtm_model.proofs.Levels.{after_record, length_innermost, length_record}
 use Rattle.rtm_law_births.specs.RequestBlocks.{CardKills, CardMakes, IsBlockAt, IsFirstOf, card_moves, is_running}
-use Rattle.rtm_law_births.proofs.Numbers.{equal_by}
 use Rattle.rtm_law_births.proofs.Outcomes.{IsVerdictOf, unless_rc}
 use Rattle.rtm_law_births.proofs.RequestBlocks.{at_place, closed_turns, dropped_list, linked_list, moved_list, newest_of, opened_turns, retried_list, top_turns}
 use Rattle.rtm_law_births.proofs.States.{Turns}
@@ -104,21 +107,15 @@ module _ (count depth born : ℕ) (some : 1 ≤ count) (n : ℕ) where
   returned_turns bss f there one = rw one (popped_turns bss f there)
 
 -- each card
-pub length_at : (f : Bracket → Bracket) (ls : List Bracket) → length (at_innermost f ls) ≡ length ls
-length_at f [] = refl
-length_at f (l ∷ ls) = refl
-
-length_enclosing : (f : Bracket → Bracket) (ls : List Bracket) → length (at_enclosing f ls) ≡ length ls
-length_enclosing f [] = refl
-length_enclosing f (l ∷ ls) = ap suc (length_at f ls)
-
-setrp_length : (f : Bracket → Bracket) (ls : List Bracket) (b : Bool) → length (if b then at_enclosing f ls else ls) ≡ length ls
-setrp_length f ls true = length_enclosing f ls
-setrp_length f ls false = refl
-
 module _ (d : DeckView) (n : ℕ) (c : Core) (sound : IsCoreSound d n c) (depth born : ℕ) where
   abbrev pub Has : Core → Place → Type 0
   Has k s = IsBlockAt (length k.levels) depth (at_place born s) k.blocks
+
+  -- SETRP and RET15 change no request block but that which runs
+  record_turns : (f : ErrorRecord → ErrorRecord) (place : Place) → Turns Place (λ s. IsBlockAt (length (after_record f c.levels)) depth (at_place born s) (with_place place c.blocks)) (Has c) (λ s. ⊥) ⊥ (λ s. if is_running c depth born then place else s)
+  record_turns f place =
+      subst (λ (k : ℕ). Turns Place (λ s. IsBlockAt k depth (at_place born s) (with_place place c.blocks)) (Has c) (λ s. ⊥) ⊥ (λ s. if is_running c depth born then place else s))
+      (sym (length_record f c.levels)) (moved_turns (length c.levels) depth born sound.levels_some (n + 1) place c.blocks sound.births)
 
   pub card : (w : World) (u rc : ℕ) (at : Place) (op : Op) → row c (surroundings_at d w u op) op ≡ Executed rc → core_at u w ≡ c → 1 ≤ length (newest_bracket c.blocks) → (op ≡ ops.Return → has_one_block c.blocks ≡ false)
       → Turns Place (Has (own_card n (place_after d at rc op) op c)) (Has c) (CardMakes n c rc op depth born) (CardKills c op depth born) (λ s. if is_running c depth born then card_moves d at rc op s else s)
@@ -127,24 +124,22 @@ module _ (d : DeckView) (n : ℕ) (c : Core) (sound : IsCoreSound d n c) (depth 
       (linked_turns (length c.levels) depth born sound.levels_some (n + 1) (block_birth n) prog (place_after d at rc (ops.Link prog)) c.blocks sound.births there)
   card w u rc at (ops.Xctl prog) e same there one = moved_turns (length c.levels) depth born sound.levels_some (n + 1) (first_place prog) c.blocks sound.births
   card w u rc at ops.Return e same there one = returned_turns (length c.levels) depth born sound.levels_some (n + 1) c.blocks sound.births there (one refl)
-  card w u rc at (ops.SetRp setrp) e same there one =
-      subst (λ (k : ℕ). Turns Place (λ s. IsBlockAt k depth (at_place born s) (with_place (place_after d at rc (ops.SetRp setrp)) c.blocks)) (Has c) (λ s. ⊥) ⊥ (λ s. if is_running c depth born then place_after d at rc (ops.SetRp setrp) else s))
-      (sym (setrp_length (on_record (setrp_in setrp)) c.levels (recovers c.levels)))
-      (moved_turns (length c.levels) depth born sound.levels_some (n + 1) (place_after d at rc (ops.SetRp setrp)) c.blocks sound.births)
+  card w u rc at (ops.SetRp setrp) e same there one = record_turns (setrp_in setrp) (place_after d at rc (ops.SetRp setrp))
+  card w u rc at (ops.Ret15 stored label) e same there one = record_turns (ret15_in stored label) (place_after d at rc (ops.Ret15 stored label))
   card w u rc at op e same there one = moved_turns (length c.levels) depth born sound.levels_some (n + 1) (place_after d at rc op) c.blocks sound.births
 
   -- errors leave them
   pub opened_error : (f : Bracket → Bracket) → Turns Place (λ s. IsBlockAt (length (at_innermost f c.levels)) depth (at_place born s) c.blocks) (Has c) (λ s. ⊥) ⊥ (λ s. s)
-  opened_error f = subst (λ (k : ℕ). Turns Place (λ s. IsBlockAt k depth (at_place born s) c.blocks) (Has c) (λ s. ⊥) ⊥ (λ s. s)) (sym (length_at f c.levels)) (still (Has c))
+  opened_error f = subst (λ (k : ℕ). Turns Place (λ s. IsBlockAt k depth (at_place born s) c.blocks) (Has c) (λ s. ⊥) ⊥ (λ s. s)) (sym (length_innermost f c.levels)) (still (Has c))
 
   pub landed : (o : Option Abort) → Turns Place (Has (with_landed o c)) (Has c) (λ s. ⊥) ⊥ (λ s. s)
   landed None = still (Has c)
   landed (Some abort) = opened_error (with_open (Some (landed_record abort)))
 
   -- a routine is entered
-  pub enters : (o : Option Reg) → Turns Place (Has (with_routine_entered n o c)) (Has c) (λ s. (depth ≡ length c.levels) × (born ≡ block_birth n) × IsFirstOf o s) ⊥ (λ s. s)
-  enters None = retold _ _ _ _ _ _ _ _ (λ s h. absurd h) (λ s h. absurd h.2) (λ k. k) (λ k. k) (λ s. refl) (still (Has c))
-  enters (Some reg) =
+  pub enters : (bare : Bool) (o : Option Reg) → Turns Place (Has (with_routine_entered n bare o c)) (Has c) (λ s. (depth ≡ length c.levels) × (born ≡ block_birth n) × IsFirstOf o s) ⊥ (λ s. s)
+  enters bare None = retold _ _ _ _ _ _ _ _ (λ s h. absurd h) (λ s h. absurd h.2) (λ k. k) (λ k. k) (λ s. refl) (still (Has c))
+  enters bare (Some reg) =
       let one_more : length c.levels + 1 ≡ suc (length c.levels) = omega arith in
       subst (λ (k : ℕ). Turns Place (λ s. IsBlockAt k depth (at_place born s) ((block_of (block_birth n) reg.prog ∷ []) ∷ c.blocks)) (Has c) (λ s. (depth ≡ length c.levels) × (born ≡ block_birth n) × (s ≡ first_place reg.prog)) ⊥ (λ s. s)) one_more
       (opened_turns (length c.levels) depth born (block_birth n) reg.prog c.blocks (omega arith))
@@ -164,14 +159,14 @@ blocks_after _ o c = refl
 -- the request block of a retry is there
 find_newest : (bs : List Block) → 1 ≤ length bs → is_some (find (is_block_of (newest_of bs)) bs) ≡ true
 find_newest [] some = absurd (omega (arith, some))
-find_newest (b ∷ older) some = rw (equal_by b.born b.born refl) refl
+find_newest (b ∷ older) some = rw (eq-eqb b.born b.born refl) refl
 
 found_more : (x : Block) (o : Option Block) (t : Bool) → is_some o ≡ true → is_some (cond t (Some x) o) ≡ true
 found_more x o true h = refl
 found_more x o false h = h
 
 last_found : (b : Block) (older : List Block) → is_some (find (is_block_of (birth_or_zero (last_or None (b ∷ older)))) (b ∷ older)) ≡ true
-last_found b [] = rw (equal_by b.born b.born refl) refl
+last_found b [] = rw (eq-eqb b.born b.born refl) refl
 last_found b (x ∷ older) = found_more b (find (is_block_of (birth_or_zero (last_or None (x ∷ older)))) (x ∷ older)) (is_block_of (birth_or_zero (last_or None (x ∷ older))) b) (last_found x older)
 
 find_oldest : (bs : List Block) → 1 ≤ length bs → is_some (find (is_block_of (birth_or_zero (oldest bs))) bs) ≡ true

@@ -1,6 +1,6 @@
 -- A unit's own control blocks after an entry: its own entries change them, and its birth and its purge do.
 use Rattle.std.proofs.Common.{◌≡◌, ℕ, ◌<◌, ◌≤◌, ◌+◌, Bool, true, false, not, ◌&&◌, List, [], length, Option, Some, None, refl, sym, ap, subst, arith, inl, inr, ◌⊎◌, ◌∙◌}
-use Rattle.std.proofs.lemmas.Bool.{eqb-true}
+use Rattle.std.proofs.lemmas.Bool.{eqb-false, eqb-true}
 use Rattle.std.specs.Prelude.{if◌then◌else◌, is_some, slice_get, ◌==◌}
 use Rattle.rtm_deck_items.specs.Reading.{job_step, op_at, program_of}
 use Rattle.rtm_deck_items.specs.View.{DeckView}
@@ -13,22 +13,24 @@ use Rattle.rtm_model.specs.declared.entry.What.{What}
 use Rattle.rtm_model.specs.declared.entry.What.TheVariants as whats
 use Rattle.rtm_model.specs.declared.error_record.ErrorRecord.{ErrorRecord}
 use Rattle.rtm_model.specs.declared.reg.Reg.{Reg}
-use Rattle.rtm_model.specs.Aborts.{first_abort}
-use Rattle.rtm_model.specs.Applies.{CanExecute, StandsAt}
-use Rattle.rtm_model.specs.Births.{abterm_abort, advance, after_arrival, after_purge, beyond_card, block_birth, cancel_abort, detach_abort, mother_abort, new_estai, own_card, own_change, own_entry, post_related, post_step, post_to, purged_core, srb_abort, step_abort, with_posted, with_unit}
+use Rattle.rtm_model.specs.inner.Applies.{CanExecute, StandsAt}
+use Rattle.rtm_model.specs.Births.{block_birth, new_estai}
+use Rattle.rtm_model.specs.Posts.{abterm_abort, cancel_abort, detach_abort, mother_abort, post_related, post_step, post_to, srb_abort, step_abort, with_posted}
+use Rattle.rtm_model.specs.OwnChange.{own_change, own_entry}
+use Rattle.rtm_model.specs.Advance.{advance, after_arrival, after_purge, beyond_card, purged_core, with_unit}
 use Rattle.rtm_model.specs.Blocks.{newest_bracket}
 use Rattle.rtm_model.specs.Chains.{inherited_estais}
 use Rattle.rtm_model.specs.Surroundings.{is_late}
-use Rattle.rtm_model.specs.Soundness.{IsSound}
+use Rattle.rtm_model.specs.inner.Soundness.{IsSound}
 use Rattle.rtm_model.specs.Tasks.{Tree, is_dormant, is_subtask_of, life_of}
 use Rattle.rtm_model.specs.World.{Core, UnitOfWork, World, at_birth, born_core, core_at, master, related_task, unborn_unit, unit_at}
+use Rattle.rtm_model.proofs.Units.{length-on_unit, unit_here, unit_same, unit_there}
+use Rattle.rtm_model.proofs.Cards.{card_estais}
 use Rattle.rtm_law_births.proofs.Beyond.{own}
 use Rattle.rtm_law_births.proofs.Cards.{NamesUnit, unit_named}
 use Rattle.rtm_law_births.proofs.Living.{IsMade, Moves, said_by}
-use Rattle.rtm_law_births.proofs.Numbers.{not_equal}
 use Rattle.rtm_law_births.proofs.Outcomes.{outcome_of}
 use Rattle.rtm_law_births.proofs.Posts.{mothered_at}
-use Rattle.rtm_law_births.proofs.Units.{length_units, unit_here, unit_same, unit_there}
 
 -- the unit's control blocks in a list of units
 abbrev pub core_of : ℕ → List UnitOfWork → Core
@@ -60,11 +62,6 @@ step_core n is_other job (Some r) w v = step_if n job r w v (is_other && r.flags
 mothered_core : (n u : ℕ) (unit : UnitOfWork) (b : Bool) → UnitOfWork.core (if b then with_posted (is_some (Core.begun unit.core)) (mother_abort n) unit else unit) ≡ unit.core
 mothered_core n u unit true = refl
 mothered_core n u unit false = refl
-
--- a card leaves its unit's ESTAI routines
-pub card_estais : (n : ℕ) (place : Place) (op : Op) (c : Core) → Core.estais (own_card n place op c) ≡ c.estais
-card_estais n place ops.Nop c = refl
-card_estais n place _ c = refl
 
 -- a unit is born by the card: its control blocks after it, by those that it had
 pub record IsBorn (v unit rc : ℕ) (after born : Core) : Type 0 where
@@ -106,9 +103,9 @@ module _ (d : DeckView) (w : World) (n u v : ℕ) where
         core = rw same (ap UnitOfWork.core (unit_here unit (at_birth (block_birth n) (program_of d unit) estais) w2.units within));
       })
   born_if w2 unit rc mother estais within true z false e =
-      let other = not_equal v unit e in
+      let other = eqb-false v unit e in
       inr (record { other = λ _ same. other same; core = ap UnitOfWork.core (unit_there unit v (at_birth (block_birth n) (program_of d unit) estais) w2.units other) })
-  born_if w2 unit rc mother estais within false z here e = inr (record { other = λ rc_is _. not_equal rc 0 z rc_is; core = refl })
+  born_if w2 unit rc mother estais within false z here e = inr (record { other = λ rc_is _. eqb-false rc 0 z rc_is; core = refl })
 
   card_after : (w2 : World) (rc : ℕ) (op : Op) → length w2.units ≡ length d.units + 1 → NamesUnit d op → Core.estais (core_at u w2) ≡ Core.estais (core_at u w)
       → BirthOr d w n u v rc op (core_of v (World.units (beyond_card d n u rc op w2))) (core_of v w2.units)
@@ -126,11 +123,11 @@ module _ (d : DeckView) (w : World) (n u v : ℕ) where
       let same = eqb-true v unit e in
       inl (same, rw same (ap UnitOfWork.core (unit_here unit (λ unit. record unit { core = purged_core unit.core; pending = [] }) w2.units within)))
   purge_if w2 unit within false e =
-      let other = not_equal v unit e in
+      let other = eqb-false v unit e in
       inr (other, ap UnitOfWork.core (unit_there unit v (λ unit. record unit { core = purged_core unit.core; pending = [] }) w2.units other))
 
   own_length : (s : IsSound d n w) (what : What) → length (World.units (own d w n u what)) ≡ length d.units + 1
-  own_length s what = length_units u (own_change d n w.managers what) w.units ∙ s.units_len
+  own_length s what = length-on_unit u (own_change d n w.managers what) w.units ∙ s.units_len
 
   beyond_after : (what : What) → IsMade d w n (record { unit = u; what = what })
       → After d w n u v what (core_at v (advance d w n (record { unit = u; what = what }))) (core_at v (own d w n u what))
@@ -153,7 +150,7 @@ module _ (d : DeckView) (w : World) (n u v : ℕ) where
   inside s h = omega (arith, s.units_len, h)
 
   own_here : (what : What) → IsMade d w n (record { unit = u; what = what }) → v ≡ u
-      → core_at v (own d w n u what) ≡ own_entry d n w.managers (first_abort (UnitOfWork.pending (unit_at u w.units))) what (core_at u w)
+      → core_at v (own d w n u what) ≡ own_entry d n w.managers (UnitOfWork.pending (unit_at u w.units)) what (core_at u w)
   own_here what m same = rw same (ap UnitOfWork.core (unit_here u (own_change d n w.managers what) w.units (inside m.sound m.can.unit)))
 
   own_there : (what : What) → (v ≡ u → ⊥) → core_at v (own d w n u what) ≡ core_at v w
@@ -188,7 +185,7 @@ module _ (d : DeckView) (w : World) (n u v : ℕ) where
 
   -- the unit whose entry it is
   pub core_here : (what : What) → IsMade d w n (record { unit = u; what = what }) → v ≡ u
-      → core_at v (advance d w n (record { unit = u; what = what })) ≡ own_entry d n w.managers (first_abort (UnitOfWork.pending (unit_at u w.units))) what (core_at u w)
+      → core_at v (advance d w n (record { unit = u; what = what })) ≡ own_entry d n w.managers (UnitOfWork.pending (unit_at u w.units)) what (core_at u w)
   core_here what m same = here_by what _ _ m same (beyond_after d w n u v what m) ∙ own_here d w n u v what m same
 
   -- any other
@@ -203,7 +200,7 @@ was_unborn d w n unit s within dormant = ap UnitOfWork.core (s.dormant unit with
 -- What comes of a thing of one unit, by the unit's own entries, and by those of others
 
 module _ (d : DeckView) (w : World) (n u v : ℕ) (what : What) (m : IsMade d w n (record { unit = u; what = what })) (has : Core → Type 0) (B K : Type 0)
-    (mine : v ≡ u → Moves (has (own_entry d n w.managers (first_abort (UnitOfWork.pending (unit_at u w.units))) what (core_at u w))) (has (core_at u w)) B K)
+    (mine : v ≡ u → Moves (has (own_entry d n w.managers (UnitOfWork.pending (unit_at u w.units)) what (core_at u w))) (has (core_at u w)) B K)
     (others : (v ≡ u → ⊥) → (after : Core) → After d w n u v what after (core_at v w) → Moves (has after) (has (core_at v w)) B K) where
   moves_if : (b : Bool) → (v == u) ≡ b → Moves (has (core_at v (advance d w n (record { unit = u; what = what })))) (has (core_at v w)) B K
   moves_if true e =
@@ -213,7 +210,7 @@ module _ (d : DeckView) (w : World) (n u v : ℕ) (what : What) (m : IsMade d w 
       (λ h. subst (λ (i : ℕ). has (core_at i w)) (sym same) h) (λ h. subst (λ (i : ℕ). has (core_at i w)) same h)
       (λ h. h) (λ h. h) (λ h. h) (λ h. h) (mine same)
   moves_if false e =
-      let other = not_equal v u e in
+      let other = eqb-false v u e in
       others other _ (core_there d w n u v what m other)
 
   pub unit_moves : Moves (has (core_at v (advance d w n (record { unit = u; what = what })))) (has (core_at v w)) B K

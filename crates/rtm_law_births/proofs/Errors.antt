@@ -1,12 +1,12 @@
 -- Births and deaths of errors, and their records, entry by entry.
 use Rattle.std.proofs.Common.{◌≡◌, ℕ, ◌<◌, ◌≤◌, ◌+◌, Bool, true, false, List, [], ◌∷◌, ◌++◌, length, Option, Some, None, refl, sym, ap, subst, arith, inl, inr, ◌⊎◌, ◌∙◌}
+use Rattle.std.proofs.lemmas.Bool.{eq-eqb, ne_eqb}
 use Rattle.std.specs.Option.{option_map}
 use Rattle.std.specs.Prelude.{if◌then◌else◌, map, ◌==◌}
 use Rattle.rtm_deck_items.specs.Reading.{job_step, op_at, program_of}
 use Rattle.rtm_deck_items.specs.View.{DeckView}
 use Rattle.rtm_deck_items.specs.declared.op.Op.{Op}
 use Rattle.rtm_deck_items.specs.declared.op.Op.TheVariants as ops
-use Rattle.rtm_deck_items.specs.declared.op.Setrp.{Setrp}
 use Rattle.rtm_model.specs.declared.abort.Abort.{Abort}
 use Rattle.rtm_model.specs.declared.block.Place.{Place}
 use Rattle.rtm_model.specs.declared.entry.Entry.{Entry}
@@ -17,23 +17,23 @@ use Rattle.rtm_model.specs.declared.entry.What.TheVariants as whats
 use Rattle.rtm_model.specs.declared.error_record.ErrorRecord.{ErrorRecord}
 use Rattle.rtm_model.specs.declared.reg.Kind.{Kind}
 use Rattle.rtm_model.specs.declared.reg.Reg.{Reg}
-use Rattle.rtm_model.specs.Aborts.{first_abort}
-use Rattle.rtm_model.specs.Births.{after_retry, error_record, is_gone_after, own_card, own_entry, place_after, routine_named, with_bracket_closed, with_landed, with_routine_entered, without_routine}
+use Rattle.rtm_model.specs.Aborts.{abort_named}
+use Rattle.rtm_model.specs.OwnChange.{after_retry, error_record, is_gone_after, own_card, own_entry, place_after, routine_named, with_bracket_closed, with_landed, with_routine_entered, without_routine}
 use Rattle.rtm_model.specs.Legal.{Legal}
 use Rattle.rtm_model.specs.Levels.{Bracket, after_enter, after_error, after_inner_failure, after_leave, at_enclosing, at_innermost, current, depth_in, error_in, on_record, outermost_alone, record_in, recovers, with_open}
 use Rattle.rtm_model.specs.NextEntry.{landed_record}
-use Rattle.rtm_model.specs.Record.{after_percolation, setrp_in}
-use Rattle.rtm_model.specs.Soundness.{IsCoreSound, IsSound}
+use Rattle.rtm_model.specs.Record.{after_percolation, ret15_in, setrp_in}
+use Rattle.rtm_model.specs.inner.Soundness.{IsCoreSound, IsSound}
 use Rattle.rtm_model.specs.World.{Core, UnitOfWork, World, at_birth, core_at, start, unborn_unit, unit_at}
+use Rattle.rtm_model.proofs.Levels.{length_innermost}
+use Rattle.rtm_model.proofs.Units.{unit_same}
+use Rattle.rtm_model.proofs.Start.{all_unborn}
 use Rattle.rtm_law_births.specs.Errors.{AreTheErrors, EntryKills, EntryMakes, IsLanded, IsOpenAt, UnitError, VerdictKills, card_changes, entry_changes, errors, verdict_changes}
-use Rattle.rtm_law_births.proofs.AbortEntries.{all_unborn}
 use Rattle.rtm_law_births.proofs.Living.{IsMade}
-use Rattle.rtm_law_births.proofs.Numbers.{equal_by, unequal}
 use Rattle.rtm_law_births.proofs.Outcomes.{IsJudged, outcome_of}
 use Rattle.rtm_law_births.proofs.OwnedStates.{own_turns}
 use Rattle.rtm_law_births.proofs.Sound.{IsSoundHistory}
 use Rattle.rtm_law_births.proofs.States.{Changes, Follows, Turns, stated}
-use Rattle.rtm_law_births.proofs.Units.{unit_same}
 
 -- an open error's bracket is one of those
 below : (depth : ℕ) (r : ErrorRecord) (ls : List Bracket) → IsOpenAt depth r ls → depth < length ls
@@ -46,10 +46,10 @@ abbrev for_entered : List Bracket → ℕ → (ErrorRecord → ErrorRecord) → 
 for_entered ls depth f r = if depth + 1 == depth_in ls then f r else r
 
 entered_is : (ls : List Bracket) (depth : ℕ) (f : ErrorRecord → ErrorRecord) (r : ErrorRecord) → depth + 1 ≡ depth_in ls → for_entered ls depth f r ≡ f r
-entered_is ls depth f r e = rw (equal_by (depth + 1) (depth_in ls) e) refl
+entered_is ls depth f r e = rw (eq-eqb (depth + 1) (depth_in ls) e) refl
 
 other_is : (ls : List Bracket) (depth : ℕ) (f : ErrorRecord → ErrorRecord) (r : ErrorRecord) → (depth + 1 ≡ depth_in ls → ⊥) → for_entered ls depth f r ≡ r
-other_is ls depth f r e = rw (unequal (depth + 1) (depth_in ls) e) refl
+other_is ls depth f r e = rw (ne_eqb (depth + 1) (depth_in ls) e) refl
 
 same_is : (ls : List Bracket) (depth : ℕ) (r : ErrorRecord) (b : Bool) → (if b then r else r) ≡ r
 same_is ls depth r true = refl
@@ -121,10 +121,6 @@ module _ (l : Bracket) (f : ErrorRecord → ErrorRecord) (depth : ℕ) where
     ];
   }
 
-length_at : (f : Bracket → Bracket) (ls : List Bracket) → length (at_innermost f ls) ≡ length ls
-length_at f [] = refl
-length_at f (l ∷ ls) = refl
-
 -- the innermost bracket is closed, and the enclosing one's record is changed
 module _ (l : Bracket) (ls : List Bracket) (depth : ℕ) (f : ErrorRecord → ErrorRecord) (K : Type 0) (dies : (r : ErrorRecord) → depth ≡ length ls → l.error ≡ Some r → K) (is_top : K → depth ≡ length ls) where
   popped : Turns ErrorRecord (λ r. IsOpenAt depth r (at_innermost (on_record f) ls)) (λ r. IsOpenAt depth r (l ∷ ls)) (λ r. ⊥) K (for_entered (l ∷ ls) depth f)
@@ -133,13 +129,13 @@ module _ (l : Bracket) (ls : List Bracket) (depth : ℕ) (f : ErrorRecord → Er
       record {
         came = λ r h. elim (turns.came r (inr h)) [
           | inl none ↦ absurd none
-          | inr stayed ↦ inr (stayed.0, stayed.1, λ k. omega (arith, is_top k, below depth r (at_innermost (on_record f) ls) h, length_at (on_record f) ls), stayed.3)
+          | inr stayed ↦ inr (stayed.0, stayed.1, λ k. omega (arith, is_top k, below depth r (at_innermost (on_record f) ls) h, length_innermost (on_record f) ls), stayed.3)
         ];
         born = λ r h. absurd h;
         stays = λ r h alive. elim (turns.stays r h (λ k. k)) [
           | inl here ↦ elim h [
             | inl was ↦ absurd (alive (dies r was.0 was.1))
-            | inr more ↦ absurd (omega (arith, here.0, length_at (on_record f) ls, below depth r ls more))
+            | inr more ↦ absurd (omega (arith, here.0, length_innermost (on_record f) ls, below depth r ls more))
           ]
           | inr more ↦ more
         ];
@@ -201,16 +197,17 @@ levels_after (Retry place) (Some r) c = refl
 levels_after Perc o c = refl
 levels_after _ o c = refl
 
--- SETRP
-setrp_if : (s : Setrp) (ls : List Bracket) (depth : ℕ) (b : Bool)
-    → Turns ErrorRecord (λ r. IsOpenAt depth r (if b then at_enclosing (on_record (setrp_in s)) ls else ls)) (λ r. IsOpenAt depth r ls) (λ r. ⊥) ⊥ (for_entered ls depth (λ r. if b then setrp_in s r else r))
-setrp_if s ls depth false = same_turns ls depth (λ r. IsOpenAt depth r ls) (λ r. IsOpenAt depth r ls) (λ r h. h) (λ r h. h)
-setrp_if s [] depth true = record { came = λ r h. absurd h; born = λ r h. absurd h; stays = λ r h alive. absurd h }
-setrp_if s (l ∷ ls) depth true = changed l (setrp_in s) depth ls
+-- SETRP and RET15
+record_if : (f : ErrorRecord → ErrorRecord) (ls : List Bracket) (depth : ℕ) (b : Bool)
+    → Turns ErrorRecord (λ r. IsOpenAt depth r (if b then at_enclosing (on_record f) ls else ls)) (λ r. IsOpenAt depth r ls) (λ r. ⊥) ⊥ (for_entered ls depth (λ r. if b then f r else r))
+record_if f ls depth false = same_turns ls depth (λ r. IsOpenAt depth r ls) (λ r. IsOpenAt depth r ls) (λ r h. h) (λ r h. h)
+record_if f [] depth true = record { came = λ r h. absurd h; born = λ r h. absurd h; stays = λ r h alive. absurd h }
+record_if f (l ∷ ls) depth true = changed l f depth ls
 
 card_levels : (n : ℕ) (place : Place) (op : Op) (c : Core) (depth : ℕ)
     → Turns ErrorRecord (λ r. IsOpenAt depth r (Core.levels (own_card n place op c))) (λ r. IsOpenAt depth r c.levels) (λ r. ⊥) ⊥ (for_entered c.levels depth (card_changes c.levels op))
-card_levels n place (ops.SetRp setrp) c depth = setrp_if setrp c.levels depth (recovers c.levels)
+card_levels n place (ops.SetRp setrp) c depth = record_if (setrp_in setrp) c.levels depth (recovers c.levels)
+card_levels n place (ops.Ret15 rc label) c depth = record_if (ret15_in rc label) c.levels depth (recovers c.levels)
 card_levels n place _ c depth = same_turns c.levels depth (λ r. IsOpenAt depth r c.levels) (λ r. IsOpenAt depth r c.levels) (λ r h. h) (λ r h. h)
 
 -- in other words
@@ -228,11 +225,11 @@ landed_levels None c depth quiet some =
 landed_levels (Some abort) c depth quiet some =
     told _ (λ r h. (h.0, h.1)) (λ r h. (h.0, h.1, some)) (opened (landed_record abort) depth c.levels quiet)
 
-entered_levels : (n : ℕ) (o : Option Reg) (c : Core) (depth : ℕ)
-    → Turns ErrorRecord (λ r. IsOpenAt depth r (Core.levels (with_routine_entered n o c))) (λ r. IsOpenAt depth r c.levels) (λ r. ⊥) ⊥ (λ r. if depth + 1 == depth_in c.levels then r else r)
-entered_levels n None c depth = same_turns c.levels depth (λ r. IsOpenAt depth r c.levels) (λ r. IsOpenAt depth r c.levels) (λ r h. h) (λ r h. h)
-entered_levels n (Some reg) c depth =
-    same_turns c.levels depth (λ r. IsOpenAt depth r c.levels) (λ r. IsOpenAt depth r (after_enter reg c.levels))
+entered_levels : (n : ℕ) (bare : Bool) (o : Option Reg) (c : Core) (depth : ℕ)
+    → Turns ErrorRecord (λ r. IsOpenAt depth r (Core.levels (with_routine_entered n bare o c))) (λ r. IsOpenAt depth r c.levels) (λ r. ⊥) ⊥ (λ r. if depth + 1 == depth_in c.levels then r else r)
+entered_levels n bare None c depth = same_turns c.levels depth (λ r. IsOpenAt depth r c.levels) (λ r. IsOpenAt depth r c.levels) (λ r h. h) (λ r h. h)
+entered_levels n bare (Some reg) c depth =
+    same_turns c.levels depth (λ r. IsOpenAt depth r c.levels) (λ r. IsOpenAt depth r (after_enter reg bare c.levels))
     (λ r h. elim h [ inl here ↦ let clash : None ≡ Some r = here.1 in absurd cc | inr more ↦ more ]) (λ r h. inr h)
 
 none_open : (depth : ℕ) (r : ErrorRecord) → IsOpenAt depth r outermost_alone → ⊥
@@ -251,16 +248,16 @@ module _ (d : DeckView) (w : World) (n u : ℕ) (x : UnitError) where
   still = same_turns (Core.levels (core_at u w)) x.depth (λ r. IsOpenAt x.depth r (Core.levels (core_at u w))) (λ r. IsOpenAt x.depth r (Core.levels (core_at u w))) (λ r h. h) (λ r h. h)
 
   by_own : (what : What) → IsMade d w n (record { unit = u; what = what })
-      → Turns ErrorRecord (λ r. IsOpenAt x.depth r (Core.levels (own_entry d n w.managers (first_abort (UnitOfWork.pending (unit_at u w.units))) what (core_at u w)))) (λ r. IsOpenAt x.depth r (Core.levels (core_at u w)))
-      (EntryMakes d (core_at u w) (first_abort (UnitOfWork.pending (unit_at u w.units))) what x.depth) (EntryKills (core_at u w) what x.depth)
+      → Turns ErrorRecord (λ r. IsOpenAt x.depth r (Core.levels (own_entry d n w.managers (UnitOfWork.pending (unit_at u w.units)) what (core_at u w)))) (λ r. IsOpenAt x.depth r (Core.levels (core_at u w)))
+      (EntryMakes d (core_at u w) (UnitOfWork.pending (unit_at u w.units)) what x.depth) (EntryKills (core_at u w) what x.depth)
       (λ r. if x.depth + 1 == depth_in (Core.levels (core_at u w)) then entry_changes d (core_at u w) what r else r)
   by_own (whats.Exec at rc) m = card_levels n (place_after d at rc (op_at d at.prog at.op)) (op_at d at.prog at.op) (core_at u w) x.depth
   by_own (whats.Error at mark) m =
       told _ (λ r h. (h.0, h.1)) (λ r h. (h.0, h.1, some m.sound))
       (opened (error_record (Core.doomed (core_at u w)) mark (op_at d at.prog at.op)) x.depth (Core.levels (core_at u w)) m.can.what.0.quiet)
   by_own (whats.Land class from mark) m =
-      landed_levels (first_abort (UnitOfWork.pending (unit_at u w.units))) (core_at u w) x.depth m.can.what.1 (some m.sound)
-  by_own (whats.Enter kind reg mark) m = entered_levels n (routine_named kind reg w.managers (core_at u w)) (core_at u w) x.depth
+      landed_levels (abort_named class from (UnitOfWork.pending (unit_at u w.units))) (core_at u w) x.depth m.can.what.1 (some m.sound)
+  by_own (whats.Enter kind reg mark bare) m = entered_levels n bare (routine_named kind reg w.managers (core_at u w)) (core_at u w) x.depth
   by_own (whats.Leave kind reg verdict logrec dump) m =
       let c : Core = core_at u w in
       let same = levels_after verdict (current c.levels) (without_routine verdict (is_gone_after verdict (record_in c.levels)) kind reg (with_bracket_closed verdict c)) in
@@ -281,7 +278,7 @@ module _ (d : DeckView) (w : World) (n u : ℕ) (x : UnitError) where
   entry : (what : What) → IsMade d w n (record { unit = u; what = what }) → Changes errors d w n (record { unit = u; what = what }) x
   entry what m =
       own_turns d w n u x.unit what m (λ c r. IsOpenAt x.depth r c.levels)
-      (EntryMakes d (core_at u w) (first_abort (UnitOfWork.pending (unit_at u w.units))) what x.depth) (EntryKills (core_at u w) what x.depth)
+      (EntryMakes d (core_at u w) (UnitOfWork.pending (unit_at u w.units)) what x.depth) (EntryKills (core_at u w) what x.depth)
       (λ r. if x.depth + 1 == depth_in (Core.levels (core_at u w)) then entry_changes d (core_at u w) what r else r)
       (λ c r h. none_open x.depth r h) (λ born prog estais c r h. h) (λ born prog estais c r h. h) (by_own what m)
 

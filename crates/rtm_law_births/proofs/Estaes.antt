@@ -1,6 +1,6 @@
 -- Births and deaths of ESTAE routines, entry by entry.
 use Rattle.std.proofs.Common.{◌≡◌, ℕ, zero, suc, ◌<◌, ◌≤◌, ◌+◌, ◌-◌, Bool, true, false, cond, not, ◌||◌, List, [], ◌∷◌, ◌++◌, length, Option, Some, None, refl, sym, ap, subst, arith, inl, inr, ◌⊎◌, ◌∙◌}
-use Rattle.std.proofs.lemmas.Bool.{eqb-true, leb-false, leb-true}
+use Rattle.std.proofs.lemmas.Bool.{eq-eqb, eqb-true, leb-false, leb-true}
 use Rattle.std.specs.Option.{option_map_or}
 use Rattle.std.specs.Prelude.{IsSome, IsSomeAnd, filter, find, if◌then◌else◌, is_some, map, nat_le, slice_index_or, ◌==◌}
 use Rattle.rtm_deck_items.specs.Reading.{job_step, op_at, program_of}
@@ -12,42 +12,44 @@ use Rattle.rtm_model.specs.declared.block.Block.{Block}
 use Rattle.rtm_model.specs.declared.block.Place.{Place}
 use Rattle.rtm_model.specs.declared.entry.Entry.{Entry}
 use Rattle.rtm_model.specs.declared.entry.Verdict.{Verdict}
-use Rattle.rtm_model.specs.declared.entry.Verdict.TheVariants.{Bad, Fail, Over, Perc, Retry, Stop}
+use Rattle.rtm_model.specs.declared.entry.Verdict.TheVariants.{Perc, Retry}
 use Rattle.rtm_model.specs.declared.entry.What.{What}
 use Rattle.rtm_model.specs.declared.entry.What.TheVariants as whats
 use Rattle.rtm_model.specs.declared.outcome.Outcome.TheVariants.{Executed}
 use Rattle.rtm_model.specs.declared.reg.Kind.{Kind}
 use Rattle.rtm_model.specs.declared.reg.Kind.TheVariants.{Estae, Estai, Frr, Mgr}
 use Rattle.rtm_model.specs.declared.reg.Reg.{Reg}
-use Rattle.rtm_model.specs.Aborts.{first_abort}
-use Rattle.rtm_model.specs.Births.{after_retry, is_estae, is_gone_after, new_estae, own_card, own_entry, place_after, routine_named, with_bracket_closed, with_landed, with_routine_entered, with_routine_left, without_newer_owners, without_routine}
+use Rattle.rtm_model.specs.Aborts.{abort_named}
+use Rattle.rtm_model.specs.Births.{new_estae}
+use Rattle.rtm_model.specs.OwnChange.{after_retry, is_estae, is_gone_after, own_card, own_entry, place_after, routine_named, with_bracket_closed, with_landed, with_routine_entered, with_routine_left, without_newer_owners, without_routine}
 use Rattle.rtm_model.specs.Blocks.{is_block_of, newest_birth, newest_bracket, without_bracket}
-use Rattle.rtm_model.specs.Cards.{fails, is_deepest, newest_owned_here, row, too_deep, too_many_estaes, unless}
+use Rattle.rtm_model.specs.Cards.{is_deepest, newest_owned_here, row, too_many_estaes}
 use Rattle.rtm_model.specs.Chains.{if_of_owner, is_of_depth, is_of_owner, newest_of, with_in_place, without_depth, without_first}
 use Rattle.rtm_model.specs.Legal.{Legal}
 use Rattle.rtm_model.specs.Levels.{current, depth_in, record_in}
 use Rattle.rtm_model.specs.Moments.{IsIn, before}
 use Rattle.rtm_model.specs.NextEntry.{retry_birth}
 use Rattle.rtm_model.specs.Surroundings.{surroundings_at}
-use Rattle.rtm_model.specs.Soundness.{BlocksFall, BracketsFall, HasOwner, IsCoreSound, IsSound, RoutinesFall, oldest_or}
+use Rattle.rtm_model.specs.inner.Soundness.{BlocksFall, BracketsFall, HasOwner, IsCoreSound, IsSound, RoutinesFall, oldest_or}
 use Rattle.rtm_model.specs.World.{Core, UnitOfWork, World, at_birth, core_at, start, unborn_unit, unit_at}
+use Rattle.rtm_model.proofs.Units.{unit_same}
+use Rattle.rtm_model.proofs.Start.{all_unborn}
+use Rattle.rtm_model.specs.Limits.{most_estaes}
 use Rattle.rtm_law_births.specs.Estaes.{AreTheEstaes, CardKills, CardMakes, EntryKills, EntryMakes, OwnerDies, estaes}
 use Rattle.rtm_law_births.specs.RequestBlocks.{CardKills as BlockCardKills, IsRunning, VerdictKills}
 use Rattle.rtm_law_births.specs.Routines.{IsItsLeave, UnitRoutine}
-use Rattle.rtm_law_births.proofs.AbortEntries.{all_unborn}
 use Rattle.rtm_law_births.proofs.BlockEntries.{oldest_below}
 use Rattle.rtm_law_births.proofs.Histories.{before-all}
 use Rattle.rtm_law_births.proofs.Lists.{all_in, filter_in, in_filter}
 use Rattle.rtm_law_births.proofs.LiveBlocks.{its_kind, owners_before, some_current, there_by}
 use Rattle.rtm_law_births.proofs.Living.{Changes, IsMade, Moves, deaths, living_by, made_at, said_by, unmoved}
-use Rattle.rtm_law_births.proofs.Numbers.{differs, equal_by, other}
-use Rattle.rtm_law_births.proofs.Outcomes.{IsVerdictOf, outcome_of, row_of, there_rc, unless_rc, verdict_of, zero_there}
+use Rattle.rtm_law_births.proofs.Numbers.{differs, other}
+use Rattle.rtm_law_births.proofs.Outcomes.{IsVerdictOf, deep_rc, outcome_of, row_of, there_rc, verdict_of, zero_there}
 use Rattle.rtm_law_births.proofs.Owned.{unit_own_moves}
 use Rattle.rtm_law_births.proofs.RequestBlocks.{found_below}
 use Rattle.rtm_law_births.proofs.Routines.{depth_gone, falls, first_gone, left_moves, no_over, no_stop, replaced}
 use Rattle.rtm_law_births.proofs.RunningOwners.{HasOwners}
 use Rattle.rtm_law_births.proofs.Sound.{IsSoundHistory}
-use Rattle.rtm_law_births.proofs.Units.{unit_same}
 
 -- Where a request block stands, by its birth
 
@@ -115,10 +117,6 @@ owned_by : (x : Reg) (t : Bool) → is_some (if t then Some x else None) ≡ tru
 owned_by x true h = (refl, refl)
 owned_by x false h = absurd cc
 
-deep_rc : (b : Bool) (living : ℕ) (rc : ℕ) → (if b then fails too_deep else unless (living == 64) too_many_estaes) ≡ Executed rc → rc ≡ 0
-deep_rc true living rc e = absurd cc
-deep_rc false living rc e = unless_rc (living == 64) too_many_estaes rc e
-
 some_of : (o : Option Reg) (reg : Reg) → o ≡ Some reg → is_some o ≡ true
 some_of o reg e = ap is_some e
 
@@ -168,7 +166,7 @@ module _ (d : DeckView) (n : ℕ) (c : Core) (sound : IsCoreSound d n c) (reg : 
   card : (w : World) (u rc : ℕ) (place : Place) (op : Op) → row c (surroundings_at d w u op) op ≡ Executed rc → 1 ≤ length (newest_bracket c.blocks)
       → Moves (IsIn reg (Core.estaes (own_card n place op c))) (IsIn reg c.estaes) (CardMakes n c rc op reg) (CardKills c rc op reg ⊎ BlockCardKills c op reg.depth reg.owner)
   card w u rc place (ops.EstaexCt prog term cancel xctl) e some = record {
-    came = λ h. elim h [ inl same ↦ inl (deep_rc (is_deepest c.levels) (length c.estaes) rc e, same) | inr there ↦ inr (there, λ k. elim k [ inl none ↦ none | inr none ↦ none ]) ];
+    came = λ h. elim h [ inl same ↦ inl (deep_rc (is_deepest c.levels) (length c.estaes == most_estaes) too_many_estaes rc e, same) | inr there ↦ inr (there, λ k. elim k [ inl none ↦ none | inr none ↦ none ]) ];
     born = λ h. inl h.1;
     stays = λ h k. inr h;
   }
@@ -184,7 +182,7 @@ module _ (d : DeckView) (n : ℕ) (c : Core) (sound : IsCoreSound d n c) (reg : 
   card w u rc place (ops.Xctl prog) e some =
       sifted (λ (r : Reg). not (is_of_owner (newest_birth c.blocks) r) || r.xctl) c.estaes reg _
       (λ there passes k. elim k [
-        | inl its ↦ not_or (reg.owner == newest_birth c.blocks) reg.xctl passes (equal_by reg.owner (newest_birth c.blocks) its.0.1) its.1
+        | inl its ↦ not_or (reg.owner == newest_birth c.blocks) reg.xctl passes (eq-eqb reg.owner (newest_birth c.blocks) its.0.1) its.1
         | inr none ↦ none
       ])
       (λ there alive. or_not (reg.owner == newest_birth c.blocks) reg.xctl (λ same no_xctl. alive (inl (runs_of some there (eqb-true reg.owner (newest_birth c.blocks) same), no_xctl))))
@@ -246,11 +244,7 @@ module _ (d : DeckView) (n : ℕ) (c : Core) (sound : IsCoreSound d n c) (reg : 
   verdict_moves_of (Retry place) owners kind routine own fits =
       retry_moves place (current c.levels) (some_current (current c.levels) kind routine own)
       (λ reg2 e. there_by d place c.levels c.blocks reg2 owners sound.brackets (subst (λ (k : Kind). IsVerdictOf k (Retry place)) (sym (its_kind (current c.levels) kind routine own reg2 e)) fits) e)
-  verdict_moves_of Perc owners kind routine own fits = unmoved (λ h. h) (λ h. h) (λ h. h) (λ h. h)
-  verdict_moves_of Stop owners kind routine own fits = unmoved (λ h. h) (λ h. h) (λ h. h) (λ h. h)
-  verdict_moves_of Bad owners kind routine own fits = unmoved (λ h. h) (λ h. h) (λ h. h) (λ h. h)
-  verdict_moves_of Fail owners kind routine own fits = unmoved (λ h. h) (λ h. h) (λ h. h) (λ h. h)
-  verdict_moves_of Over owners kind routine own fits = unmoved (λ h. h) (λ h. h) (λ h. h) (λ h. h)
+  verdict_moves_of _ owners kind routine own fits = unmoved (λ h. h) (λ h. h) (λ h. h) (λ h. h)
 
 stayed_in : {a b k : Type 0} → Moves a b ⊥ k → a → b × (k → ⊥)
 stayed_in {a} {b} {k} m h = elim (m.came h) as (λ _. b × (k → ⊥)) [ inl none ↦ absurd none | inr stayed ↦ stayed ]
@@ -278,9 +272,9 @@ estaes_landed : (abort : Option Abort) (c : Core) → Core.estaes (with_landed a
 estaes_landed None c = refl
 estaes_landed (Some abort) c = refl
 
-estaes_entered : (n : ℕ) (o : Option Reg) (c : Core) → Core.estaes (with_routine_entered n o c) ≡ c.estaes
-estaes_entered n None c = refl
-estaes_entered n (Some reg) c = refl
+estaes_entered : (n : ℕ) (bare : Bool) (o : Option Reg) (c : Core) → Core.estaes (with_routine_entered n bare o c) ≡ c.estaes
+estaes_entered n bare None c = refl
+estaes_entered n bare (Some reg) c = refl
 
 neither : ⊥ ⊎ ⊥ → ⊥
 neither (inl none) = none
@@ -291,13 +285,13 @@ kept_list reg before after e = unmoved (λ h. subst (IsIn reg) e h) (λ h. subst
 
 module _ (d : DeckView) (w : World) (n u : ℕ) (x : UnitRoutine) (owners : (v : ℕ) → HasOwners (core_at v w)) where
   by_own : (what : What) → IsMade d w n (record { unit = u; what = what })
-      → Moves (IsIn x.reg (Core.estaes (own_entry d n w.managers (first_abort (UnitOfWork.pending (unit_at u w.units))) what (core_at u w)))) (IsIn x.reg (Core.estaes (core_at u w)))
+      → Moves (IsIn x.reg (Core.estaes (own_entry d n w.managers (UnitOfWork.pending (unit_at u w.units)) what (core_at u w)))) (IsIn x.reg (Core.estaes (core_at u w)))
       (EntryMakes d n (core_at u w) what x.reg) (EntryKills d (core_at u w) what x.reg ⊎ OwnerDies d (core_at u w) what x.reg)
   by_own (whats.Exec at rc) m =
       let op : Op = op_at d at.prog at.op in
       card d n (core_at u w) (IsSound.cores m.sound u) x.reg w u rc (place_after d at rc op) op (row_of (core_at u w) (surroundings_at d w u op) op rc (outcome_of d w u (whats.Exec at rc) m.may)) m.can.what.0.some
-  by_own (whats.Land class from mark) m = kept_list x.reg (Core.estaes (core_at u w)) _ (estaes_landed (first_abort (UnitOfWork.pending (unit_at u w.units))) (core_at u w))
-  by_own (whats.Enter kind reg mark) m = kept_list x.reg (Core.estaes (core_at u w)) _ (estaes_entered n (routine_named kind reg w.managers (core_at u w)) (core_at u w))
+  by_own (whats.Land class from mark) m = kept_list x.reg (Core.estaes (core_at u w)) _ (estaes_landed (abort_named class from (UnitOfWork.pending (unit_at u w.units))) (core_at u w))
+  by_own (whats.Enter kind reg mark bare) m = kept_list x.reg (Core.estaes (core_at u w)) _ (estaes_entered n bare (routine_named kind reg w.managers (core_at u w)) (core_at u w))
   by_own (whats.Leave kind reg verdict logrec dump) m =
       left d n (core_at u w) (IsSound.cores m.sound u) x.reg (owners u) kind reg verdict m.can.what.own
       (verdict_of d (core_at u w) kind verdict (IsCoreSound.nested (IsSound.cores m.sound u)) (outcome_of d w u (whats.Leave kind reg verdict logrec dump) m.may))

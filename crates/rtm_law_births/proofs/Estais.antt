@@ -1,6 +1,6 @@
 -- Births and deaths of ESTAI routines, entry by entry.
 use Rattle.std.proofs.Common.{◌≡◌, ℕ, ◌<◌, ◌≤◌, Bool, true, false, ◌&&◌, List, [], ◌∷◌, ◌++◌, length, Option, Some, None, refl, sym, ap, subst, arith, inl, inr, ◌⊎◌, ◌∙◌}
-use Rattle.std.proofs.lemmas.Bool.{eqb-true}
+use Rattle.std.proofs.lemmas.Bool.{cases_lt, eqb-false, eqb-true}
 use Rattle.std.proofs.lemmas.List.{set_past}
 use Rattle.std.specs.Prelude.{if◌then◌else◌, map, ◌==◌}
 use Rattle.rtm_deck_items.specs.Reading.{job_step, op_at, program_of}
@@ -11,35 +11,36 @@ use Rattle.rtm_model.specs.declared.abort.Abort.{Abort}
 use Rattle.rtm_model.specs.declared.block.Place.{Place}
 use Rattle.rtm_model.specs.declared.entry.Entry.{Entry}
 use Rattle.rtm_model.specs.declared.entry.Verdict.{Verdict}
-use Rattle.rtm_model.specs.declared.entry.Verdict.TheVariants.{Bad, Fail, Over, Perc, Retry, Stop}
+use Rattle.rtm_model.specs.declared.entry.Verdict.TheVariants.{Perc, Retry, Stop}
 use Rattle.rtm_model.specs.declared.entry.What.{What}
 use Rattle.rtm_model.specs.declared.entry.What.TheVariants as whats
 use Rattle.rtm_model.specs.declared.reg.Kind.{Kind}
 use Rattle.rtm_model.specs.declared.reg.Kind.TheVariants.{Estae, Estai, Frr, Mgr}
 use Rattle.rtm_model.specs.declared.reg.Reg.{Reg}
-use Rattle.rtm_model.specs.Aborts.{first_abort}
-use Rattle.rtm_model.specs.Applies.{CanExecute, StandsAt}
-use Rattle.rtm_model.specs.Births.{after_retry, estais_left, is_gone_after, new_estai, own_entry, place_after, routine_named, with_bracket_closed, with_landed, with_routine_entered, with_routine_left, without_routine}
+use Rattle.rtm_model.specs.Aborts.{abort_named}
+use Rattle.rtm_model.specs.inner.Applies.{CanExecute, StandsAt}
+use Rattle.rtm_model.specs.Births.{new_estai}
+use Rattle.rtm_model.specs.OwnChange.{after_retry, estais_left, is_gone_after, own_entry, place_after, routine_named, with_bracket_closed, with_landed, with_routine_entered, with_routine_left, without_routine}
 use Rattle.rtm_model.specs.Chains.{inherited_estais, without_born}
 use Rattle.rtm_model.specs.Legal.{Legal}
 use Rattle.rtm_model.specs.Levels.{current, record_in}
 use Rattle.rtm_model.specs.Moments.{IsIn}
 use Rattle.rtm_model.specs.Record.{is_estai}
-use Rattle.rtm_model.specs.Soundness.{IsCoreSound, IsSound, RoutinesFall}
+use Rattle.rtm_model.specs.inner.Soundness.{IsCoreSound, IsSound, RoutinesFall}
 use Rattle.rtm_model.specs.World.{Core, UnitOfWork, World, at_birth, core_at, on_unit, start, unborn_unit, unit_at}
+use Rattle.rtm_model.proofs.Units.{unit_here, unit_there}
+use Rattle.rtm_model.proofs.Start.{all_unborn}
 use Rattle.rtm_law_births.specs.Estais.{AreTheEstais, CardMakes, EntryKills, EntryMakes, estais}
 use Rattle.rtm_law_births.specs.Routines.{IsItsLeave, UnitRoutine}
 use Rattle.rtm_law_births.proofs.Sound.{IsSoundHistory}
-use Rattle.rtm_law_births.proofs.AbortEntries.{all_unborn}
 use Rattle.rtm_law_births.proofs.Cards.{NamesUnit, unit_named}
-use Rattle.rtm_law_births.proofs.Cores.{BirthOr, card_estais, no_self, was_unborn}
+use Rattle.rtm_model.proofs.Cards.{card_estais}
+use Rattle.rtm_law_births.proofs.Cores.{BirthOr, no_self, was_unborn}
 use Rattle.rtm_law_births.proofs.Histories.{before-all}
-use Rattle.rtm_law_births.proofs.Living.{Changes, Follows, IsMade, Moves, living, said_by, same_list, unmoved}
-use Rattle.rtm_law_births.proofs.Numbers.{not_equal}
+use Rattle.rtm_law_births.proofs.Living.{Changes, Follows, IsMade, Moves, cleared, living, said_by, same_list, unmoved}
 use Rattle.rtm_law_births.proofs.Outcomes.{IsVerdictOf, outcome_of, verdict_of}
 use Rattle.rtm_law_births.proofs.Owned.{ByBirth, owned_moves}
 use Rattle.rtm_law_births.proofs.Routines.{left_moves, no_over}
-use Rattle.rtm_law_births.proofs.Units.{unit_here, unit_there, within_or}
 
 -- those of a task at its birth
 in_inherited : (own : Option Reg) (mother : List Reg) (reg : Reg) → IsIn reg (inherited_estais own mother) → (own ≡ Some reg) ⊎ IsIn reg mother
@@ -58,9 +59,9 @@ estais_landed : (abort : Option Abort) (c : Core) → Core.estais (with_landed a
 estais_landed None c = refl
 estais_landed (Some abort) c = refl
 
-estais_entered : (n : ℕ) (o : Option Reg) (c : Core) → Core.estais (with_routine_entered n o c) ≡ c.estais
-estais_entered n None c = refl
-estais_entered n (Some reg) c = refl
+estais_entered : (n : ℕ) (bare : Bool) (o : Option Reg) (c : Core) → Core.estais (with_routine_entered n bare o c) ≡ c.estais
+estais_entered n bare None c = refl
+estais_entered n bare (Some reg) c = refl
 
 estais_after : (verdict : Verdict) (o : Option Reg) (c : Core) → Core.estais (after_retry verdict o c) ≡ c.estais
 estais_after (Retry place) None c = refl
@@ -77,9 +78,6 @@ is_estai_of Mgr e = absurd cc
 not_mgr : (kind : Kind) → kind ≡ Estai → kind ≡ Mgr → ⊥
 not_mgr kind e f = let k : Estai ≡ Mgr = sym e ∙ f in absurd cc
 
-nothing : (a : Reg) (p : List Reg) → Moves (IsIn a []) (IsIn a p) ⊥ (Unit {0})
-nothing a p = record { came = λ h. absurd h; born = λ h. absurd h; stays = λ h alive. absurd (alive tt) }
-
 module _ (c : Core) (reg : Reg) (kind : Kind) (born : ℕ) where
   left_kept : (verdict : Verdict) → IsVerdictOf kind verdict → (verdict ≡ Stop → ⊥)
       → Moves (IsIn reg (if is_gone_after verdict (record_in c.levels) && is_estai kind then without_born born c.estais else c.estais)) (IsIn reg c.estais) ⊥ (IsItsLeave c Estai reg kind born verdict ⊎ (verdict ≡ Stop))
@@ -91,11 +89,7 @@ module _ (c : Core) (reg : Reg) (kind : Kind) (born : ℕ) where
   left_list : (verdict : Verdict) → IsVerdictOf kind verdict
       → Moves (IsIn reg (estais_left verdict (is_gone_after verdict (record_in c.levels)) kind born c.estais)) (IsIn reg c.estais) ⊥ (IsItsLeave c Estai reg kind born verdict ⊎ (verdict ≡ Stop))
   left_list Stop fits = record { came = λ h. absurd h; born = λ h. absurd h; stays = λ h alive. absurd (alive (inr refl)) }
-  left_list (Retry place) fits = left_kept (Retry place) fits (λ e. absurd cc)
-  left_list Perc fits = left_kept Perc fits (λ e. absurd cc)
-  left_list Bad fits = left_kept Bad fits (λ e. absurd cc)
-  left_list Fail fits = left_kept Fail fits (λ e. absurd cc)
-  left_list Over fits = left_kept Over fits (λ e. absurd cc)
+  left_list verdict fits = left_kept verdict fits (λ e. absurd cc)
 
   left : (verdict : Verdict) → IsVerdictOf kind verdict
       → Moves (IsIn reg (Core.estais (with_routine_left kind born verdict c))) (IsIn reg c.estais) ⊥ (IsItsLeave c Estai reg kind born verdict ⊎ (verdict ≡ Stop))
@@ -134,18 +128,18 @@ module _ (d : DeckView) (w : World) (n u : ℕ) (x : UnitRoutine) where
       unmoved (λ k. subst (IsIn x.reg) list k) (λ k. subst (IsIn x.reg) (sym list) k) (λ k. k) (λ k. k)
 
   by_own : (what : What) → IsMade d w n (record { unit = u; what = what })
-      → Moves (IsIn x.reg (Core.estais (own_entry d n w.managers (first_abort (UnitOfWork.pending (unit_at u w.units))) what (core_at u w)))) (IsIn x.reg (Core.estais (core_at u w)))
+      → Moves (IsIn x.reg (Core.estais (own_entry d n w.managers (UnitOfWork.pending (unit_at u w.units)) what (core_at u w)))) (IsIn x.reg (Core.estais (core_at u w)))
       ⊥ (EntryKills d (core_at u w) what x.reg)
   by_own (whats.Exec at rc) m =
       same_list x.reg (Core.estais (core_at u w)) _ (card_estais n (place_after d at rc (op_at d at.prog at.op)) (op_at d at.prog at.op) (core_at u w))
   by_own (whats.Land class from mark) m =
-      same_list x.reg (Core.estais (core_at u w)) _ (estais_landed (first_abort (UnitOfWork.pending (unit_at u w.units))) (core_at u w))
-  by_own (whats.Enter kind reg mark) m =
-      same_list x.reg (Core.estais (core_at u w)) _ (estais_entered n (routine_named kind reg w.managers (core_at u w)) (core_at u w))
+      same_list x.reg (Core.estais (core_at u w)) _ (estais_landed (abort_named class from (UnitOfWork.pending (unit_at u w.units))) (core_at u w))
+  by_own (whats.Enter kind reg mark bare) m =
+      same_list x.reg (Core.estais (core_at u w)) _ (estais_entered n bare (routine_named kind reg w.managers (core_at u w)) (core_at u w))
   by_own (whats.Leave kind reg verdict logrec dump) m =
       left (core_at u w) x.reg kind reg verdict
       (verdict_of d (core_at u w) kind verdict (IsCoreSound.nested (IsSound.cores m.sound u)) (outcome_of d w u (whats.Leave kind reg verdict logrec dump) m.may))
-  by_own (whats.Begin code dump) m = nothing x.reg (Core.estais (core_at u w))
+  by_own (whats.Begin code dump) m = cleared x.reg (Core.estais (core_at u w))
   by_own _ m = unmoved (λ h. h) (λ h. h) (λ h. h) (λ h. h)
 
   -- by the words of the table
@@ -178,7 +172,7 @@ module _ (d : DeckView) (w : World) (n u : ℕ) (x : UnitRoutine) where
 -- at the start no unit has any
 none_set : (units : List UnitOfWork) → ((v : ℕ) → Core.estais (UnitOfWork.core (unit_at v units)) ≡ []) → (u v born prog : ℕ) (b : Bool) → (v == u) ≡ b → (u < length units) ⊎ (length units ≤ u)
     → Core.estais (UnitOfWork.core (unit_at v (on_unit u (at_birth born prog []) units))) ≡ []
-none_set units none u v born prog false e h = ap (λ (k : UnitOfWork). Core.estais k.core) (unit_there u v (at_birth born prog []) units (not_equal v u e)) ∙ none v
+none_set units none u v born prog false e h = ap (λ (k : UnitOfWork). Core.estais k.core) (unit_there u v (at_birth born prog []) units (eqb-false v u e)) ∙ none v
 none_set units none u v born prog true e (inl within) =
     let same = eqb-true v u e in
     rw same (ap (λ (k : UnitOfWork). Core.estais k.core) (unit_here u (at_birth born prog []) units within))
@@ -187,7 +181,7 @@ none_set units none u v born prog true e (inr past) = ap (λ (us : List UnitOfWo
 none_at_start : (d : DeckView) (v : ℕ) → Core.estais (core_at v (start d)) ≡ []
 none_at_start d v =
     let units : List UnitOfWork = map (λ card. unborn_unit) d.units ++ unborn_unit ∷ [] in
-    none_set units (λ i. ap (λ (unit : UnitOfWork). Core.estais unit.core) (all_unborn d.units i)) (job_step d) v 0 (program_of d (job_step d)) (v == job_step d) refl (within_or (job_step d) (length units))
+    none_set units (λ i. ap (λ (unit : UnitOfWork). Core.estais unit.core) (all_unborn d.units i)) (job_step d) v 0 (program_of d (job_step d)) (v == job_step d) refl (cases_lt (job_step d) (length units))
 
 follows : Follows estais
 follows = record {

@@ -1,6 +1,6 @@
 -- Births and deaths of FRRs, entry by entry.
-use Rattle.std.proofs.Common.{◌≡◌, ℕ, Bool, true, false, List, [], ◌∷◌, ◌++◌, length, Option, Some, None, refl, sym, ap, subst, arith, inl, inr, ◌⊎◌, ◌∙◌}
-use Rattle.std.specs.Prelude.{if◌then◌else◌, is_some, map, ◌==◌}
+use Rattle.std.proofs.Common.{◌≡◌, ℕ, Bool, true, List, [], ◌∷◌, ◌++◌, length, Option, Some, None, refl, sym, ap, subst, arith, inl, inr, ◌⊎◌, ◌∙◌}
+use Rattle.std.specs.Prelude.{is_some, map, ◌==◌}
 use Rattle.rtm_deck_items.specs.Reading.{op_at, job_step, program_of}
 use Rattle.rtm_deck_items.specs.View.{DeckView}
 use Rattle.rtm_deck_items.specs.declared.op.Op.{Op}
@@ -9,39 +9,37 @@ use Rattle.rtm_model.specs.declared.abort.Abort.{Abort}
 use Rattle.rtm_model.specs.declared.block.Place.{Place}
 use Rattle.rtm_model.specs.declared.entry.Entry.{Entry}
 use Rattle.rtm_model.specs.declared.entry.Verdict.{Verdict}
-use Rattle.rtm_model.specs.declared.entry.Verdict.TheVariants.{Bad, Fail, Over, Perc, Retry, Stop}
+use Rattle.rtm_model.specs.declared.entry.Verdict.TheVariants.{Retry}
 use Rattle.rtm_model.specs.declared.entry.What.{What}
 use Rattle.rtm_model.specs.declared.entry.What.TheVariants as whats
 use Rattle.rtm_model.specs.declared.outcome.Outcome.TheVariants.{Executed}
 use Rattle.rtm_model.specs.declared.reg.Kind.{Kind}
 use Rattle.rtm_model.specs.declared.reg.Kind.TheVariants.{Estae, Estai, Frr, Mgr}
 use Rattle.rtm_model.specs.declared.reg.Reg.{Reg}
-use Rattle.rtm_model.specs.Aborts.{first_abort}
-use Rattle.rtm_model.specs.Births.{after_retry, is_gone_after, new_frr, own_card, own_entry, place_after, routine_named, with_bracket_closed, with_landed, with_routine_entered, with_routine_left, without_routine}
-use Rattle.rtm_model.specs.Cards.{fails, frr_here, is_deepest, row, too_deep, too_many_frrs, unless}
+use Rattle.rtm_model.specs.Aborts.{abort_named}
+use Rattle.rtm_model.specs.Births.{new_frr}
+use Rattle.rtm_model.specs.OwnChange.{after_retry, is_gone_after, own_card, own_entry, place_after, routine_named, with_bracket_closed, with_landed, with_routine_entered, with_routine_left, without_routine}
+use Rattle.rtm_model.specs.Cards.{frr_here, is_deepest, row, too_many_frrs}
 use Rattle.rtm_model.specs.Chains.{is_of_depth, without_depth}
 use Rattle.rtm_model.specs.Legal.{Legal}
 use Rattle.rtm_model.specs.Levels.{current, depth_in, is_frr, record_in}
 use Rattle.rtm_model.specs.Moments.{IsIn}
 use Rattle.rtm_model.specs.Surroundings.{surroundings_at}
-use Rattle.rtm_model.specs.Soundness.{IsCoreSound, IsSound, RoutinesFall}
+use Rattle.rtm_model.specs.inner.Soundness.{IsCoreSound, IsSound, RoutinesFall}
 use Rattle.rtm_model.specs.World.{Core, UnitOfWork, World, at_birth, core_at, start, unborn_unit, unit_at}
+use Rattle.rtm_model.proofs.Units.{unit_same}
+use Rattle.rtm_model.proofs.Start.{all_unborn}
+use Rattle.rtm_model.specs.Limits.{most_frrs}
 use Rattle.rtm_law_births.specs.Frrs.{AreTheFrrs, CardKills, CardMakes, EntryKills, EntryMakes, frrs}
 use Rattle.rtm_law_births.specs.Routines.{IsItsLeave, UnitRoutine}
 use Rattle.rtm_law_births.proofs.Sound.{IsSoundHistory}
-use Rattle.rtm_law_births.proofs.AbortEntries.{all_unborn}
 use Rattle.rtm_law_births.proofs.Histories.{before-all}
-use Rattle.rtm_law_births.proofs.Living.{Changes, Follows, IsMade, Moves, deaths, living, said_by, same_list, unmoved}
-use Rattle.rtm_law_births.proofs.Outcomes.{IsVerdictOf, outcome_of, row_of, there_rc, unless_rc, verdict_of, zero_there}
+use Rattle.rtm_law_births.proofs.Living.{Changes, Follows, IsMade, Moves, cleared, deaths, living, said_by, same_list, unmoved}
+use Rattle.rtm_law_births.proofs.Outcomes.{IsVerdictOf, deep_rc, outcome_of, row_of, there_rc, verdict_of, zero_there}
 use Rattle.rtm_law_births.proofs.Owned.{unit_own_moves}
 use Rattle.rtm_law_births.proofs.Routines.{depth_gone, falls, first_gone, left_moves, no_over, no_stop, replaced}
-use Rattle.rtm_law_births.proofs.Units.{unit_same}
 
 -- SETFRR A
-deep_rc : (b : Bool) (living : ℕ) (rc : ℕ) → (if b then fails too_deep else unless (living == 16) too_many_frrs) ≡ Executed rc → rc ≡ 0
-deep_rc true living rc e = absurd cc
-deep_rc false living rc e = unless_rc (living == 16) too_many_frrs rc e
-
 purge_rc : (rc : ℕ) → Executed 0 ≡ Executed rc → rc ≡ 0
 purge_rc rc e = cc
 
@@ -56,7 +54,7 @@ module _ (d : DeckView) (n : ℕ) (c : Core) (sound : IsCoreSound d n c) (reg : 
   -- the card executed with 0 is what the list says
   card : (w : World) (u rc : ℕ) (place : Place) (op : Op) → core_at u w ≡ c → row c (surroundings_at d w u op) op ≡ Executed rc
       → Moves (IsIn reg (Core.frrs (own_card n place op c))) (IsIn reg c.frrs) (CardMakes n c rc op reg) (CardKills c rc op reg)
-  card w u rc place (ops.FrrAdd prog) same e = added prog rc (deep_rc (is_deepest c.levels) (length c.frrs) rc e)
+  card w u rc place (ops.FrrAdd prog) same e = added prog rc (deep_rc (is_deepest c.levels) (length c.frrs == most_frrs) too_many_frrs rc e)
   card w u rc place ops.FrrDelete same e =
       said_by (λ h. h) (λ h. h) (λ h. h) (λ h. h) (λ h. h) (λ h. h)
       (λ k. (there_rc (is_some (frr_here c)) 4 rc e (ap is_some k), k)) (λ k. k.1)
@@ -74,13 +72,9 @@ module _ (d : DeckView) (n : ℕ) (c : Core) (sound : IsCoreSound d n c) (reg : 
 
   -- a routine is left
   frrs_after : (verdict : Verdict) (o : Option Reg) (c2 : Core) → Core.frrs (after_retry verdict o c2) ≡ c2.frrs
-  frrs_after (Retry place) None c2 = refl
-  frrs_after (Retry place) (Some r) c2 = refl
-  frrs_after Perc o c2 = refl
-  frrs_after Stop o c2 = refl
-  frrs_after Bad o c2 = refl
-  frrs_after Fail o c2 = refl
-  frrs_after Over o c2 = refl
+  frrs_after (Retry place) None c = refl
+  frrs_after (Retry place) (Some routine) c = refl
+  frrs_after _ o c = refl
 
   is_frr_of : (kind : Kind) → is_frr kind ≡ true → kind ≡ Frr
   is_frr_of Frr e = refl
@@ -107,28 +101,25 @@ frrs_landed : (abort : Option Abort) (c : Core) → Core.frrs (with_landed abort
 frrs_landed None c = refl
 frrs_landed (Some abort) c = refl
 
-frrs_entered : (n : ℕ) (o : Option Reg) (c : Core) → Core.frrs (with_routine_entered n o c) ≡ c.frrs
-frrs_entered n None c = refl
-frrs_entered n (Some reg) c = refl
-
-nothing : (a : Reg) (p : List Reg) → Moves (IsIn a []) (IsIn a p) ⊥ (Unit {0})
-nothing a p = record { came = λ h. absurd h; born = λ h. absurd h; stays = λ h alive. absurd (alive tt) }
+frrs_entered : (n : ℕ) (bare : Bool) (o : Option Reg) (c : Core) → Core.frrs (with_routine_entered n bare o c) ≡ c.frrs
+frrs_entered n bare None c = refl
+frrs_entered n bare (Some reg) c = refl
 
 module _ (d : DeckView) (w : World) (n u : ℕ) (x : UnitRoutine) where
   by_own : (what : What) → IsMade d w n (record { unit = u; what = what })
-      → Moves (IsIn x.reg (Core.frrs (own_entry d n w.managers (first_abort (UnitOfWork.pending (unit_at u w.units))) what (core_at u w)))) (IsIn x.reg (Core.frrs (core_at u w)))
+      → Moves (IsIn x.reg (Core.frrs (own_entry d n w.managers (UnitOfWork.pending (unit_at u w.units)) what (core_at u w)))) (IsIn x.reg (Core.frrs (core_at u w)))
       (EntryMakes d n (core_at u w) what x.reg) (EntryKills d (core_at u w) what x.reg)
   by_own (whats.Exec at rc) m =
       card d n (core_at u w) (IsSound.cores m.sound u) x.reg w u rc (place_after d at rc (op_at d at.prog at.op)) (op_at d at.prog at.op) refl
       (row_of (core_at u w) (surroundings_at d w u (op_at d at.prog at.op)) (op_at d at.prog at.op) rc (outcome_of d w u (whats.Exec at rc) m.may))
   by_own (whats.Land class from mark) m =
-      same_list x.reg (Core.frrs (core_at u w)) _ (frrs_landed (first_abort (UnitOfWork.pending (unit_at u w.units))) (core_at u w))
-  by_own (whats.Enter kind reg mark) m =
-      same_list x.reg (Core.frrs (core_at u w)) _ (frrs_entered n (routine_named kind reg w.managers (core_at u w)) (core_at u w))
+      same_list x.reg (Core.frrs (core_at u w)) _ (frrs_landed (abort_named class from (UnitOfWork.pending (unit_at u w.units))) (core_at u w))
+  by_own (whats.Enter kind reg mark bare) m =
+      same_list x.reg (Core.frrs (core_at u w)) _ (frrs_entered n bare (routine_named kind reg w.managers (core_at u w)) (core_at u w))
   by_own (whats.Leave kind reg verdict logrec dump) m =
       left d n (core_at u w) (IsSound.cores m.sound u) x.reg kind reg verdict
       (verdict_of d (core_at u w) kind verdict (IsCoreSound.nested (IsSound.cores m.sound u)) (outcome_of d w u (whats.Leave kind reg verdict logrec dump) m.may))
-  by_own (whats.Begin code dump) m = nothing x.reg (Core.frrs (core_at u w))
+  by_own (whats.Begin code dump) m = cleared x.reg (Core.frrs (core_at u w))
   by_own _ m = unmoved (λ h. h) (λ h. h) (λ h. h) (λ h. h)
 
   entry : (what : What) → IsMade d w n (record { unit = u; what = what }) → Changes frrs d w n (record { unit = u; what = what }) x

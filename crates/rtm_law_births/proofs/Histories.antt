@@ -4,7 +4,7 @@ use Rattle.std.proofs.lemmas.List.{take_all}
 use Rattle.std.specs.Prelude.{slice_get}
 use Rattle.rtm_deck_items.specs.View.{DeckView}
 use Rattle.rtm_model.specs.declared.entry.Entry.{Entry}
-use Rattle.rtm_model.specs.Births.{advance, world, world_from}
+use Rattle.rtm_model.specs.Advance.{advance, world, world_from}
 use Rattle.rtm_model.specs.Legal.{Legal, LegalFrom, MayFollow}
 use Rattle.rtm_model.specs.Moments.{IsAt, before}
 use Rattle.rtm_model.specs.World.{World, start}

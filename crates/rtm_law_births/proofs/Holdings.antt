@@ -1,6 +1,6 @@
 -- Births and deaths of holdings, entry by entry.
 use Rattle.std.proofs.Common.{◌≡◌, ℕ, zero, suc, ◌<◌, ◌≤◌, ◌+◌, Bool, true, false, not, List, [], ◌∷◌, length, Some, None, refl, sym, ap, subst, arith, inl, inr, ◌⊎◌, ◌∙◌}
-use Rattle.std.proofs.lemmas.Bool.{eqb-true}
+use Rattle.std.proofs.lemmas.Bool.{eqb-false, eqb-true}
 use Rattle.std.proofs.lemmas.List.{get_or-set_other, get_or-set_same}
 use Rattle.std.specs.Prelude.{if◌then◌else◌, is_some, replicate, slice_get, ◌==◌}
 use Rattle.rtm_deck_items.specs.Reading.{job_step, op_at}
@@ -14,14 +14,14 @@ use Rattle.rtm_model.specs.declared.entry.What.{What}
 use Rattle.rtm_model.specs.declared.entry.What.TheVariants as whats
 use Rattle.rtm_model.specs.declared.holding.Holding.{Holding}
 use Rattle.rtm_model.specs.declared.outcome.Outcome.TheVariants.{Executed}
-use Rattle.rtm_model.specs.Births.{after_attach, beyond_card, with_unit}
+use Rattle.rtm_model.specs.Advance.{after_attach, beyond_card, with_unit}
 use Rattle.rtm_model.specs.Cards.{row}
 use Rattle.rtm_model.specs.Chains.{without_first}
 use Rattle.rtm_model.specs.Ending.{Holdings, after_free, after_get, holdings_of, is_of_id, newest_equal, no_holdings, of_class, on_class, on_owner}
 use Rattle.rtm_model.specs.Legal.{Legal}
 use Rattle.rtm_model.specs.Moments.{IsIn}
 use Rattle.rtm_model.specs.Surroundings.{surroundings_at}
-use Rattle.rtm_model.specs.Soundness.{AreHeld, AreHoldings, HoldingsFall, IsHolding, IsSound}
+use Rattle.rtm_model.specs.inner.Soundness.{AreHeld, AreHoldings, HoldingsFall, IsHolding, IsSound}
 use Rattle.rtm_model.specs.World.{UnitOfWork, World, core_at, related_task}
 use Rattle.rtm_law_births.specs.Holdings.{AreTheHoldings, CardKills, CardMakes, holdings}
 use Rattle.rtm_law_births.proofs.Sound.{IsSoundHistory}
@@ -29,7 +29,6 @@ use Rattle.rtm_law_births.proofs.Beyond.{arrived_units, own, related_units, step
 use Rattle.rtm_law_births.proofs.Histories.{before-all}
 use Rattle.rtm_law_births.proofs.Lists.{Falls, all_in, found_in, in_without_first, without_first_in}
 use Rattle.rtm_law_births.proofs.Living.{Changes, Follows, IsMade, Moves, living, unmoved}
-use Rattle.rtm_law_births.proofs.Numbers.{not_equal}
 use Rattle.rtm_law_births.proofs.Outcomes.{outcome_of, row_of, there_rc, unless_rc}
 
 -- the births of holdings fall
@@ -70,7 +69,7 @@ abbrev IsOf : Holding → ℕ → Res → Type 0
 IsOf x owner class = (x.owner ≡ owner) × (x.class ≡ class)
 
 is_of_if : (x : Holding) (owner : ℕ) (class : Res) (t : Bool) → (x.owner == owner) ≡ t → IsOf x owner class ⊎ (IsOf x owner class → ⊥)
-is_of_if x owner class false e = inr (λ h. not_equal x.owner owner e h.0)
+is_of_if x owner class false e = inr (λ h. eqb-false x.owner owner e h.0)
 is_of_if x owner class true e = elim (same_class x.class class) [
   | inl same ↦ inl (eqb-true x.owner owner e, same)
   | inr other ↦ inr (λ h. other h.1)
@@ -93,7 +92,7 @@ module _ (x : Holding) (owner : ℕ) (class : Res) (f : List Holding → List Ho
       rw same (ap (of_class x.class) (get_or-set_same hs owner (on_class class f (holdings_of owner hs)) no_holdings within)
       ∙ class_there x.class class f (holdings_of owner hs) (λ k. h (same, k)))
   other_class false e h =
-      ap (of_class x.class) (get_or-set_other hs owner x.owner (on_class class f (holdings_of owner hs)) no_holdings (not_equal x.owner owner e))
+      ap (of_class x.class) (get_or-set_other hs owner x.owner (on_class class f (holdings_of owner hs)) no_holdings (eqb-false x.owner owner e))
 
   list_there : (IsOf x owner class → ⊥) → of_class x.class (holdings_of x.owner (on_owner owner (on_class class f) hs)) ≡ of_class x.class (holdings_of x.owner hs)
   list_there h = other_class (x.owner == owner) refl h

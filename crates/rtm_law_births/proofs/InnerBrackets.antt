@@ -6,161 +6,154 @@ use Rattle.rtm_deck_items.specs.Reading.{op_at}
 use Rattle.rtm_deck_items.specs.View.{DeckView}
 use Rattle.rtm_deck_items.specs.declared.op.Op.{Op}
 use Rattle.rtm_deck_items.specs.declared.op.Op.TheVariants as ops
-use Rattle.rtm_deck_items.specs.declared.op.Setrp.{Setrp}
 use Rattle.rtm_model.specs.declared.abort.Abort.{Abort}
 use Rattle.rtm_model.specs.declared.block.Place.{Place}
 use Rattle.rtm_model.specs.declared.entry.Entry.{Entry}
 use Rattle.rtm_model.specs.declared.entry.Verdict.{Verdict}
-use Rattle.rtm_model.specs.declared.entry.Verdict.TheVariants.{Bad, Fail, Over, Perc, Retry, Stop}
+use Rattle.rtm_model.specs.declared.entry.Verdict.TheVariants.{Retry}
 use Rattle.rtm_model.specs.declared.entry.What.{What}
 use Rattle.rtm_model.specs.declared.entry.What.TheVariants as whats
 use Rattle.rtm_model.specs.declared.error_record.ErrorRecord.{ErrorRecord}
 use Rattle.rtm_model.specs.declared.holding.Manager1.{Manager1}
 use Rattle.rtm_model.specs.declared.reg.Reg.{Reg}
-use Rattle.rtm_model.specs.Aborts.{first_abort}
-use Rattle.rtm_model.specs.Births.{error_record, is_gone_after, own_card, own_entry, place_after, routine_named, with_bracket_closed, with_landed, with_routine_entered, without_routine}
+use Rattle.rtm_model.specs.Aborts.{abort_named}
+use Rattle.rtm_model.specs.OwnChange.{error_record, is_gone_after, own_card, own_entry, place_after, routine_named, with_bracket_closed, with_landed, with_routine_entered, without_routine}
 use Rattle.rtm_model.specs.Legal.{Legal}
 use Rattle.rtm_model.specs.Levels.{Bracket, after_leave, after_verdict, at_enclosing, at_innermost, current, depth_in, on_record, outermost_alone, record_in, recovers, with_open}
 use Rattle.rtm_model.specs.Moments.{before}
 use Rattle.rtm_model.specs.NextEntry.{landed_record}
-use Rattle.rtm_model.specs.Record.{setrp_in}
-use Rattle.rtm_model.specs.Soundness.{AreNested, IsCoreSound, IsSound, StandsIn}
+use Rattle.rtm_model.specs.Record.{ret15_in, setrp_in}
+use Rattle.rtm_model.specs.inner.Soundness.{AreNested, IsCoreSound, IsSound, StandsIn}
 use Rattle.rtm_model.specs.World.{Core, UnitOfWork, World, core_at, unit_at}
-use Rattle.rtm_law_births.specs.Brackets.{AreTheBrackets, EntryKills, EntryMakes, RunsAt, UnitBracket, brackets}
+use Rattle.rtm_model.proofs.Levels.{length_innermost}
+use Rattle.rtm_law_births.specs.Brackets.{AreTheBrackets, EntryKills, EntryMakes, IsAmong, UnitBracket, brackets}
 use Rattle.rtm_law_births.specs.Life.{LivesBefore, LivesSince}
 use Rattle.rtm_law_births.proofs.Errors.{levels_after, levels_at_start}
 use Rattle.rtm_law_births.proofs.Living.{Changes, Follows, IsMade, Moves, living, living_at, survives_shorter, unmoved}
 use Rattle.rtm_law_births.proofs.Owned.{unit_own_moves}
 use Rattle.rtm_law_births.proofs.Sound.{IsSoundHistory}
 
-below : (depth : ℕ) (reg : Reg) (ls : List Bracket) → RunsAt depth reg ls → depth < length ls
-below depth reg [] h = absurd h
-below depth reg (l ∷ ls) (inl here) = omega (arith, here.0)
-below depth reg (l ∷ ls) (inr more) = omega (arith, below depth reg ls more)
+below : (x : UnitBracket) (ls : List Bracket) → IsAmong x ls → x.depth < length ls
+below x [] h = absurd h
+below x (l ∷ ls) (inl here) = omega (arith, here.0)
+below x (l ∷ ls) (inr more) = omega (arith, below x ls more)
 
--- changes that leave each bracket's routine
+-- changes that leave each bracket's routine, and whether it is bare
 abbrev pub KeepsRoutine : (Bracket → Bracket) → Type 0
-KeepsRoutine f = (l : Bracket) → Bracket.routine (f l) ≡ l.routine
+KeepsRoutine f = (l : Bracket) → (Bracket.routine (f l) ≡ l.routine) × (Bracket.bare (f l) ≡ l.bare)
 
-runs_before : (f : Bracket → Bracket) → KeepsRoutine f → (depth : ℕ) (reg : Reg) (ls : List Bracket) → RunsAt depth reg (at_innermost f ls) → RunsAt depth reg ls
-runs_before f keeps depth reg [] h = h
-runs_before f keeps depth reg (l ∷ ls) (inl here) = inl (here.0, sym (keeps l) ∙ here.1)
-runs_before f keeps depth reg (l ∷ ls) (inr more) = inr more
+runs_before : (f : Bracket → Bracket) → KeepsRoutine f → (x : UnitBracket) (ls : List Bracket) → IsAmong x (at_innermost f ls) → IsAmong x ls
+runs_before f keeps x [] h = h
+runs_before f keeps x (l ∷ ls) (inl here) = inl (here.0, sym (keeps l).0 ∙ here.1, sym (keeps l).1 ∙ here.2)
+runs_before f keeps x (l ∷ ls) (inr more) = inr more
 
-runs_after : (f : Bracket → Bracket) → KeepsRoutine f → (depth : ℕ) (reg : Reg) (ls : List Bracket) → RunsAt depth reg ls → RunsAt depth reg (at_innermost f ls)
-runs_after f keeps depth reg [] h = h
-runs_after f keeps depth reg (l ∷ ls) (inl here) = inl (here.0, keeps l ∙ here.1)
-runs_after f keeps depth reg (l ∷ ls) (inr more) = inr more
+runs_after : (f : Bracket → Bracket) → KeepsRoutine f → (x : UnitBracket) (ls : List Bracket) → IsAmong x ls → IsAmong x (at_innermost f ls)
+runs_after f keeps x [] h = h
+runs_after f keeps x (l ∷ ls) (inl here) = inl (here.0, (keeps l).0 ∙ here.1, (keeps l).1 ∙ here.2)
+runs_after f keeps x (l ∷ ls) (inr more) = inr more
 
-length_at : (f : Bracket → Bracket) (ls : List Bracket) → length (at_innermost f ls) ≡ length ls
-length_at f [] = refl
-length_at f (l ∷ ls) = refl
+inner_kept : (f : Bracket → Bracket) → KeepsRoutine f → (x : UnitBracket) (ls : List Bracket) → Moves (IsAmong x (at_innermost f ls)) (IsAmong x ls) ⊥ ⊥
+inner_kept f keeps x ls = unmoved (runs_before f keeps x ls) (runs_after f keeps x ls) (λ h. h) (λ h. h)
 
-inner_kept : (f : Bracket → Bracket) → KeepsRoutine f → (depth : ℕ) (reg : Reg) (ls : List Bracket) → Moves (RunsAt depth reg (at_innermost f ls)) (RunsAt depth reg ls) ⊥ ⊥
-inner_kept f keeps depth reg ls = unmoved (runs_before f keeps depth reg ls) (runs_after f keeps depth reg ls) (λ h. h) (λ h. h)
+-- SETRP and RET15
+enclosing_kept : (f : Bracket → Bracket) → KeepsRoutine f → (x : UnitBracket) (ls : List Bracket) → Moves (IsAmong x (at_enclosing f ls)) (IsAmong x ls) ⊥ ⊥
+enclosing_kept f keeps x [] = unmoved (λ h. h) (λ h. h) (λ h. h) (λ h. h)
+enclosing_kept f keeps x (l ∷ ls) =
+    unmoved (λ h. elim h [ inl here ↦ inl (omega (arith, here.0, length_innermost f ls), here.1, here.2) | inr more ↦ inr (runs_before f keeps x ls more) ])
+    (λ h. elim h [ inl here ↦ inl (omega (arith, here.0, length_innermost f ls), here.1, here.2) | inr more ↦ inr (runs_after f keeps x ls more) ]) (λ h. h) (λ h. h)
 
--- SETRP
-enclosing_kept : (f : Bracket → Bracket) → KeepsRoutine f → (depth : ℕ) (reg : Reg) (ls : List Bracket) → Moves (RunsAt depth reg (at_enclosing f ls)) (RunsAt depth reg ls) ⊥ ⊥
-enclosing_kept f keeps depth reg [] = unmoved (λ h. h) (λ h. h) (λ h. h) (λ h. h)
-enclosing_kept f keeps depth reg (l ∷ ls) =
-    unmoved (λ h. elim h [ inl here ↦ inl (omega (arith, here.0, length_at f ls), here.1) | inr more ↦ inr (runs_before f keeps depth reg ls more) ])
-    (λ h. elim h [ inl here ↦ inl (omega (arith, here.0, length_at f ls), here.1) | inr more ↦ inr (runs_after f keeps depth reg ls more) ]) (λ h. h) (λ h. h)
+record_if : (f : ErrorRecord → ErrorRecord) (x : UnitBracket) (ls : List Bracket) (b : Bool) → Moves (IsAmong x (if b then at_enclosing (on_record f) ls else ls)) (IsAmong x ls) ⊥ ⊥
+record_if f x ls true = enclosing_kept (on_record f) (λ l. (refl, refl)) x ls
+record_if f x ls false = unmoved (λ h. h) (λ h. h) (λ h. h) (λ h. h)
 
-setrp_if : (s : Setrp) (depth : ℕ) (reg : Reg) (ls : List Bracket) (b : Bool) → Moves (RunsAt depth reg (if b then at_enclosing (on_record (setrp_in s)) ls else ls)) (RunsAt depth reg ls) ⊥ ⊥
-setrp_if s depth reg ls true = enclosing_kept (on_record (setrp_in s)) (λ l. refl) depth reg ls
-setrp_if s depth reg ls false = unmoved (λ h. h) (λ h. h) (λ h. h) (λ h. h)
+card_kept : (n : ℕ) (place : Place) (op : Op) (c : Core) (x : UnitBracket) → Moves (IsAmong x (Core.levels (own_card n place op c))) (IsAmong x c.levels) ⊥ ⊥
+card_kept n place (ops.SetRp setrp) c x = record_if (setrp_in setrp) x c.levels (recovers c.levels)
+card_kept n place (ops.Ret15 rc label) c x = record_if (ret15_in rc label) x c.levels (recovers c.levels)
+card_kept n place _ c x = unmoved (λ h. h) (λ h. h) (λ h. h) (λ h. h)
 
-card_kept : (n : ℕ) (place : Place) (op : Op) (c : Core) (depth : ℕ) (reg : Reg) → Moves (RunsAt depth reg (Core.levels (own_card n place op c))) (RunsAt depth reg c.levels) ⊥ ⊥
-card_kept n place (ops.SetRp setrp) c depth reg = setrp_if setrp depth reg c.levels (recovers c.levels)
-card_kept n place _ c depth reg = unmoved (λ h. h) (λ h. h) (λ h. h) (λ h. h)
-
-landed_kept : (o : Option Abort) (c : Core) (depth : ℕ) (reg : Reg) → Moves (RunsAt depth reg (Core.levels (with_landed o c))) (RunsAt depth reg c.levels) ⊥ ⊥
-landed_kept None c depth reg = unmoved (λ h. h) (λ h. h) (λ h. h) (λ h. h)
-landed_kept (Some abort) c depth reg = inner_kept (with_open (Some (landed_record abort))) (λ l. refl) depth reg c.levels
+landed_kept : (o : Option Abort) (c : Core) (x : UnitBracket) → Moves (IsAmong x (Core.levels (with_landed o c))) (IsAmong x c.levels) ⊥ ⊥
+landed_kept None c x = unmoved (λ h. h) (λ h. h) (λ h. h) (λ h. h)
+landed_kept (Some abort) c x = inner_kept (with_open (Some (landed_record abort))) (λ l. (refl, refl)) x c.levels
 
 -- a routine is entered
-entered_moves : (n : ℕ) (o : Option Reg) (c : Core) (depth : ℕ) (reg : Reg)
-    → Moves (RunsAt depth reg (Core.levels (with_routine_entered n o c))) (RunsAt depth reg c.levels) ((depth ≡ length c.levels) × (o ≡ Some reg)) ⊥
-entered_moves n None c depth reg = unmoved (λ h. h) (λ h. h) (λ h. let clash : None ≡ Some reg = h.1 in cc) (λ h. h)
-entered_moves n (Some routine) c depth reg = record {
-  came = λ h. elim h [ inl here ↦ inl (here.0, here.1) | inr more ↦ inr (more, λ k. k) ];
-  born = λ h. inl (h.0, h.1);
+entered_moves : (n : ℕ) (bare : Bool) (o : Option Reg) (c : Core) (x : UnitBracket)
+    → Moves (IsAmong x (Core.levels (with_routine_entered n bare o c))) (IsAmong x c.levels) ((x.depth ≡ length c.levels) × (o ≡ Some x.routine) × (bare ≡ x.bare)) ⊥
+entered_moves n bare None c x = unmoved (λ h. h) (λ h. h) (λ h. let clash : None ≡ Some x.routine = h.1 in cc) (λ h. h)
+entered_moves n bare (Some routine) c x = record {
+  came = λ h. elim h [ inl here ↦ inl (here.0, here.1, here.2) | inr more ↦ inr (more, λ k. k) ];
+  born = λ h. inl (h.0, h.1, h.2);
   stays = λ h alive. inr h;
 }
 
 -- it is left
 pub verdict_keeps : (verdict : Verdict) (inner : Option ErrorRecord) → KeepsRoutine (after_verdict verdict inner)
-verdict_keeps (Retry place) inner l = refl
-verdict_keeps Perc inner l = refl
-verdict_keeps Stop inner l = refl
-verdict_keeps Bad inner l = refl
-verdict_keeps Fail inner l = refl
-verdict_keeps Over inner l = refl
+verdict_keeps (Retry place) inner l = (refl, refl)
+verdict_keeps _ inner l = (refl, refl)
 
-left_moves : (verdict : Verdict) (ls : List Bracket) (depth : ℕ) (reg : Reg) → Moves (RunsAt depth reg (after_leave verdict ls)) (RunsAt depth reg ls) ⊥ (depth ≡ depth_in ls)
-left_moves verdict [] depth reg = record { came = λ h. absurd h; born = λ h. absurd h; stays = λ h alive. absurd h }
-left_moves verdict (l ∷ ls) depth reg =
+left_moves : (verdict : Verdict) (ls : List Bracket) (x : UnitBracket) → Moves (IsAmong x (after_leave verdict ls)) (IsAmong x ls) ⊥ (x.depth ≡ depth_in ls)
+left_moves verdict [] x = record { came = λ h. absurd h; born = λ h. absurd h; stays = λ h alive. absurd h }
+left_moves verdict (l ∷ ls) x =
     let keeps = verdict_keeps verdict l.error in
     record {
       came = λ h.
-          let was = runs_before (after_verdict verdict l.error) keeps depth reg ls h in
-          inr (inr was, λ k. omega (arith, k, below depth reg ls was));
+          let was = runs_before (after_verdict verdict l.error) keeps x ls h in
+          inr (inr was, λ k. omega (arith, k, below x ls was));
       born = λ h. absurd h;
       stays = λ h alive. elim h [
         | inl here ↦ absurd (alive (omega (arith, here.0)))
-        | inr more ↦ runs_after (after_verdict verdict l.error) keeps depth reg ls more
+        | inr more ↦ runs_after (after_verdict verdict l.error) keeps x ls more
       ];
     }
 
 -- the outermost bracket has no routine
-none_alone : (depth : ℕ) (reg : Reg) → RunsAt depth reg outermost_alone → ⊥
-none_alone depth reg (inl here) = let clash : None ≡ Some reg = here.1 in cc
-none_alone depth reg (inr none) = none
+none_alone : (x : UnitBracket) → IsAmong x outermost_alone → ⊥
+none_alone x (inl here) = let clash : None ≡ Some x.routine = here.1 in cc
+none_alone x (inr none) = none
 
-none_outermost : (ls : List Bracket) → AreNested ls → depth_in ls ≡ 0 → (depth : ℕ) (reg : Reg) → RunsAt depth reg ls → ⊥
-none_outermost [] nested at depth reg h = h
-none_outermost (l ∷ []) nested at depth reg (inl here) = subst (λ (o : Option Reg). StandsIn o None) here.1 nested.0
-none_outermost (l ∷ []) nested at depth reg (inr none) = none
-none_outermost (l ∷ o ∷ ls) nested at depth reg h = absurd (omega (arith, at))
+none_outermost : (ls : List Bracket) → AreNested ls → depth_in ls ≡ 0 → (x : UnitBracket) → IsAmong x ls → ⊥
+none_outermost [] nested at x h = h
+none_outermost (l ∷ []) nested at x (inl here) = subst (λ (o : Option Reg). StandsIn o None) here.1 nested.0
+none_outermost (l ∷ []) nested at x (inr none) = none
+none_outermost (l ∷ o ∷ ls) nested at x h = absurd (omega (arith, at))
 
 module _ (d : DeckView) (w : World) (n u : ℕ) (x : UnitBracket) where
   by_own : (what : What) → IsMade d w n (record { unit = u; what = what })
-      → Moves (RunsAt x.depth x.routine (Core.levels (own_entry d n w.managers (first_abort (UnitOfWork.pending (unit_at u w.units))) what (core_at u w)))) (RunsAt x.depth x.routine (Core.levels (core_at u w)))
-      (EntryMakes (core_at u w) w.managers what x.depth x.routine) (EntryKills (core_at u w) what x.depth)
-  by_own (whats.Exec at rc) m = card_kept n (place_after d at rc (op_at d at.prog at.op)) (op_at d at.prog at.op) (core_at u w) x.depth x.routine
-  by_own (whats.Error at mark) m = inner_kept (with_open (Some (error_record (Core.doomed (core_at u w)) mark (op_at d at.prog at.op)))) (λ l. refl) x.depth x.routine (Core.levels (core_at u w))
-  by_own (whats.Land class from mark) m = landed_kept (first_abort (UnitOfWork.pending (unit_at u w.units))) (core_at u w) x.depth x.routine
-  by_own (whats.Enter kind reg mark) m = entered_moves n (routine_named kind reg w.managers (core_at u w)) (core_at u w) x.depth x.routine
+      → Moves (IsAmong x (Core.levels (own_entry d n w.managers (UnitOfWork.pending (unit_at u w.units)) what (core_at u w)))) (IsAmong x (Core.levels (core_at u w)))
+      (EntryMakes (core_at u w) w.managers what x) (EntryKills (core_at u w) what x.depth)
+  by_own (whats.Exec at rc) m = card_kept n (place_after d at rc (op_at d at.prog at.op)) (op_at d at.prog at.op) (core_at u w) x
+  by_own (whats.Error at mark) m = inner_kept (with_open (Some (error_record (Core.doomed (core_at u w)) mark (op_at d at.prog at.op)))) (λ l. (refl, refl)) x (Core.levels (core_at u w))
+  by_own (whats.Land class from mark) m = landed_kept (abort_named class from (UnitOfWork.pending (unit_at u w.units))) (core_at u w) x
+  by_own (whats.Enter kind reg mark bare) m = entered_moves n bare (routine_named kind reg w.managers (core_at u w)) (core_at u w) x
   by_own (whats.Leave kind reg verdict logrec dump) m =
       let c : Core = core_at u w in
       let same = levels_after verdict (current c.levels) (without_routine verdict (is_gone_after verdict (record_in c.levels)) kind reg (with_bracket_closed verdict c)) in
-      let moves = left_moves verdict c.levels x.depth x.routine in
+      let moves = left_moves verdict c.levels x in
       record {
-        came = λ h. moves.came (subst (RunsAt x.depth x.routine) same h);
+        came = λ h. moves.came (subst (IsAmong x) same h);
         born = λ h. absurd h;
-        stays = λ h alive. subst (RunsAt x.depth x.routine) (sym same) (moves.stays h alive);
+        stays = λ h alive. subst (IsAmong x) (sym same) (moves.stays h alive);
       }
   by_own (whats.Begin code dump) m =
-      unmoved (λ h. absurd (none_alone x.depth x.routine h))
-      (λ h. absurd (none_outermost (Core.levels (core_at u w)) (IsCoreSound.nested (IsSound.cores m.sound u)) m.can.what.1 x.depth x.routine h)) (λ h. h) (λ h. h)
+      unmoved (λ h. absurd (none_alone x h))
+      (λ h. absurd (none_outermost (Core.levels (core_at u w)) (IsCoreSound.nested (IsSound.cores m.sound u)) m.can.what.1 x h)) (λ h. h) (λ h. h)
   by_own _ m = unmoved (λ h. h) (λ h. h) (λ h. h) (λ h. h)
 
   entry : (what : What) → IsMade d w n (record { unit = u; what = what }) → Changes brackets d w n (record { unit = u; what = what }) x
   entry what m =
-      unit_own_moves d w n u x.unit what m (λ c. RunsAt x.depth x.routine c.levels) _ _ (λ c h. none_alone x.depth x.routine h)
+      unit_own_moves d w n u x.unit what m (λ c. IsAmong x c.levels) _ _ (λ c h. none_alone x h)
       (λ born prog estais c h. h) (λ born prog estais c h. h) (λ same. by_own what m)
 
 follows : Follows brackets
 follows = record {
-  first = λ d deck x h. none_alone x.depth x.routine (subst (RunsAt x.depth x.routine) (levels_at_start d x.unit) h);
+  first = λ d deck x h. none_alone x (subst (IsAmong x) (levels_at_start d x.unit) h);
   there = λ d deck x h. absurd h;
   changes = λ d w n e m x. entry d w n e.unit x e.what m;
 }
 
 -- a bracket is born inside of all that are there
-deepest : (c : Core) (managers : List Manager1) (what : What) (depth : ℕ) (reg : Reg) → EntryMakes c managers what depth reg → depth ≡ length c.levels
-deepest c managers (whats.Enter kind born mark) depth reg h = h.0
-deepest c managers _ depth reg h = absurd h
+deepest : (c : Core) (managers : List Manager1) (what : What) (x : UnitBracket) → EntryMakes c managers what x → x.depth ≡ length c.levels
+deepest c managers (whats.Enter kind born mark bare) x h = h.0
+deepest c managers _ x h = absurd h
 
 equal_or : (j i : ℕ) → j ≤ i → (j < i) ⊎ (j ≡ i)
 equal_or j i h = grind arith
@@ -187,17 +180,17 @@ module _ (d : DeckView) (h : List Entry) (sound : IsSoundHistory d h) (legal : L
             ) in
             let runs = living_at brackets d h sound legal follows i (omega (arith, born.below)) y alive in
             let unit : y.unit ≡ Entry.unit born.entry = sym same ∙ born.makes.0 in
-            let inside = below y.depth y.routine (Core.levels (core_at (Entry.unit born.entry) (before d h i))) (subst (λ (v : ℕ). RunsAt y.depth y.routine (Core.levels (core_at v (before d h i)))) unit runs) in
-            let outside = deepest (core_at (Entry.unit born.entry) (before d h i)) (World.managers (before d h i)) (Entry.what born.entry) x.depth x.routine born.makes.1 in
+            let inside = below y (Core.levels (core_at (Entry.unit born.entry) (before d h i))) (subst (λ (v : ℕ). IsAmong y (Core.levels (core_at v (before d h i)))) unit runs) in
+            let outside = deepest (core_at (Entry.unit born.entry) (before d h i)) (World.managers (before d h i)) (Entry.what born.entry) x born.makes.1 in
             omega (arith, inside, outside, less)
         | inr one ↦
             let at_i = subst (λ (k : ℕ). slice_get h k ≡ Some inner.entry) one inner.at in
             let at_x : slice_get h i ≡ Some born.entry = born.at in
             let entry : inner.entry ≡ born.entry = cc in
-            let moved = subst (λ (k : ℕ). (y.unit ≡ Entry.unit inner.entry) × EntryMakes (core_at (Entry.unit inner.entry) (before d h k)) (World.managers (before d h k)) (Entry.what inner.entry) y.depth y.routine) one inner.makes in
-            let mine = subst (λ (e : Entry). (y.unit ≡ e.unit) × EntryMakes (core_at e.unit (before d h i)) (World.managers (before d h i)) e.what y.depth y.routine) entry moved in
-            let a = deepest (core_at (Entry.unit born.entry) (before d h i)) (World.managers (before d h i)) (Entry.what born.entry) y.depth y.routine mine.1 in
-            let b = deepest (core_at (Entry.unit born.entry) (before d h i)) (World.managers (before d h i)) (Entry.what born.entry) x.depth x.routine born.makes.1 in
+            let moved = subst (λ (k : ℕ). (y.unit ≡ Entry.unit inner.entry) × EntryMakes (core_at (Entry.unit inner.entry) (before d h k)) (World.managers (before d h k)) (Entry.what inner.entry) y) one inner.makes in
+            let mine = subst (λ (e : Entry). (y.unit ≡ e.unit) × EntryMakes (core_at e.unit (before d h i)) (World.managers (before d h i)) e.what y) entry moved in
+            let a = deepest (core_at (Entry.unit born.entry) (before d h i)) (World.managers (before d h i)) (Entry.what born.entry) y mine.1 in
+            let b = deepest (core_at (Entry.unit born.entry) (before d h i)) (World.managers (before d h i)) (Entry.what born.entry) x born.makes.1 in
             omega (arith, a, b, less)
       ]
 

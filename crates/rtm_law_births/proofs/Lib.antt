@@ -6,7 +6,6 @@ pub mod States
 pub mod Lists
 pub mod Outcomes
 pub mod Beyond
-pub mod Units
 pub mod Managers
 pub mod Holdings
 pub mod Posts

@@ -1,52 +1,51 @@
 -- Births and deaths of request blocks, and their places: each entry, and so a history.
 use Rattle.std.proofs.Common.{◌≡◌, ℕ, ◌<◌, ◌≤◌, ◌+◌, ◌-◌, Bool, true, false, ◌&&◌, List, [], ◌∷◌, ◌++◌, length, Option, Some, None, refl, sym, ap, subst, arith, inl, inr, ◌⊎◌, ◌∙◌}
-use Rattle.std.proofs.lemmas.Bool.{eqb-true}
+use Rattle.std.proofs.lemmas.Bool.{eqb-false, eqb-true}
 use Rattle.std.specs.List.{AllByRecursion}
 use Rattle.std.specs.Option.{option_map_or}
 use Rattle.std.specs.Prelude.{IsSome, IsSomeAnd, IsTrue, find, if◌then◌else◌, is_some, map, ◌==◌}
 use Rattle.rtm_deck_items.specs.Reading.{job_step, op_at, program_of}
 use Rattle.rtm_deck_items.specs.View.{DeckView}
 use Rattle.rtm_deck_items.specs.WellFormed.{is_well_formed}
-use Rattle.rtm_deck_items.specs.declared.deck.Unit.{Unit as UnitCard}
 use Rattle.rtm_deck_items.specs.declared.op.Op.{Op}
 use Rattle.rtm_deck_items.specs.declared.op.Op.TheVariants as ops
 use Rattle.rtm_model.specs.declared.block.Block.{Block}
 use Rattle.rtm_model.specs.declared.block.Place.{Place}
 use Rattle.rtm_model.specs.declared.entry.Entry.{Entry}
 use Rattle.rtm_model.specs.declared.entry.Verdict.{Verdict}
-use Rattle.rtm_model.specs.declared.entry.Verdict.TheVariants.{Bad, Fail, Over, Perc, Retry, Stop}
+use Rattle.rtm_model.specs.declared.entry.Verdict.TheVariants.{Retry}
 use Rattle.rtm_model.specs.declared.entry.What.{What}
 use Rattle.rtm_model.specs.declared.entry.What.TheVariants as whats
 use Rattle.rtm_model.specs.declared.reg.Kind.{Kind}
 use Rattle.rtm_model.specs.declared.reg.Reg.{Reg}
-use Rattle.rtm_model.specs.Aborts.{first_abort}
-use Rattle.rtm_model.specs.Applies.{CanExecute}
-use Rattle.rtm_model.specs.Births.{block_birth, error_record, is_gone_after, own_entry, routine_named, with_bracket_closed, with_routine_left, without_routine}
+use Rattle.rtm_model.specs.Aborts.{abort_named}
+use Rattle.rtm_model.specs.inner.Applies.{CanExecute}
+use Rattle.rtm_model.specs.Births.{block_birth}
+use Rattle.rtm_model.specs.OwnChange.{error_record, is_gone_after, own_entry, routine_named, with_bracket_closed, with_routine_left, without_routine}
 use Rattle.rtm_model.specs.Blocks.{has_one_block, is_block_of, newest_bracket, without_bracket}
 use Rattle.rtm_model.specs.Legal.{Legal}
 use Rattle.rtm_model.specs.Levels.{Bracket, after_leave, after_verdict, current, depth_in, record_in, with_open}
 use Rattle.rtm_model.specs.Moments.{before}
 use Rattle.rtm_model.specs.NextEntry.{retry_birth}
 use Rattle.rtm_model.specs.Surroundings.{surroundings_at}
-use Rattle.rtm_model.specs.Soundness.{BracketsFall, IsBracket, IsCoreSound, IsSound}
+use Rattle.rtm_model.specs.inner.Soundness.{BracketsFall, IsBracket, IsCoreSound, IsSound}
 use Rattle.rtm_model.specs.World.{Core, UnitOfWork, World, at_birth, born_core, core_at, start, unborn_unit, unit_at}
+use Rattle.rtm_model.proofs.Levels.{length_innermost}
+use Rattle.rtm_model.proofs.Units.{unit_here, unit_there}
+use Rattle.rtm_model.proofs.Start.{all_unborn, job_step_in, length-unborn}
 use Rattle.rtm_law_births.specs.RequestBlocks.{AreTheBlocks, BirthMakes, EntryKills, EntryMakes, IsBlockAt, IsFirstBlock, UnitBlock, UnitMakes, VerdictKills, blocks, entry_moves, verdict_moves}
-use Rattle.rtm_law_births.proofs.AbortEntries.{all_unborn}
-use Rattle.rtm_law_births.proofs.BlockEntries.{blocks_after, card, closing, enters, in_turn, landed, length_at, opened_error, retold, retry_blocks, retry_there, retry_turns, still, without_fall}
+use Rattle.rtm_law_births.proofs.BlockEntries.{blocks_after, card, closing, enters, in_turn, landed, opened_error, retold, retry_blocks, retry_there, retry_turns, still, without_fall}
 use Rattle.rtm_law_births.proofs.Cards.{NamesUnit, unit_named}
 use Rattle.rtm_law_births.proofs.Cores.{BirthOr, no_self, was_unborn}
 use Rattle.rtm_law_births.proofs.Errors.{levels_after}
 use Rattle.rtm_law_births.proofs.Histories.{before-all}
-use Rattle.rtm_law_births.proofs.LivingUnits.{job_within}
 use Rattle.rtm_law_births.proofs.Living.{IsMade, kept_before}
-use Rattle.rtm_law_births.proofs.Numbers.{not_equal}
 use Rattle.rtm_law_births.proofs.Outcomes.{IsVerdictOf, outcome_of, row_of, verdict_of}
 use Rattle.rtm_law_births.proofs.OwnedStates.{ByBirth, whole_turns}
 use Rattle.rtm_law_births.proofs.RequestBlocks.{at_place}
 use Rattle.rtm_law_births.proofs.RunningOwners.{HasOwners, OwnerIn, OwnersLive, entry_owners, start_owners}
 use Rattle.rtm_law_births.proofs.Sound.{IsSoundHistory}
 use Rattle.rtm_law_births.proofs.States.{Changes, Follows, Turns, stated}
-use Rattle.rtm_law_births.proofs.Units.{unit_here, unit_there}
 
 -- A routine is left
 
@@ -75,7 +74,7 @@ there_by d place (l ∷ ls) (bs ∷ obs2 ∷ rest2) reg owners all fits e obs re
 
 leave_length : (verdict : Verdict) (ls : List Bracket) → length (after_leave verdict ls) ≡ length ls - 1
 leave_length verdict [] = omega arith
-leave_length verdict (l ∷ ls) = length_at (after_verdict verdict l.error) ls ∙ omega arith
+leave_length verdict (l ∷ ls) = length_innermost (after_verdict verdict l.error) ls ∙ omega arith
 
 pub some_current : (o : Option Reg) (kind : Kind) (born : ℕ) → IsSomeAnd o (λ reg. (reg.kind ≡ kind) × (reg.born ≡ born)) → IsSome o
 some_current None kind born h = absurd h
@@ -98,15 +97,11 @@ module _ (d : DeckView) (n : ℕ) (c : Core) (sound : IsCoreSound d n c) (owners
       ((depth ≡ depth_in c.levels) ⊎ VerdictKills c verdict depth born) (λ s. verdict_moves c verdict depth born s)
   left_list (Retry place) kind routine own fits =
       retold _ _ _ _ _ _ _ _ (λ s h. h) (λ s h. h)
-      (λ k. elim k [ inl with_bracket_closed ↦ inl (omega (arith, with_bracket_closed)) | inr cut ↦ inr cut ])
-      (λ k. elim k [ inl with_bracket_closed ↦ inl (omega (arith, with_bracket_closed, sound.levels_some)) | inr cut ↦ inr cut ]) (λ s. refl)
+      (λ k. elim k [ inl closed ↦ inl (omega (arith, closed)) | inr cut ↦ inr cut ])
+      (λ k. elim k [ inl closed ↦ inl (omega (arith, closed, sound.levels_some)) | inr cut ↦ inr cut ]) (λ s. refl)
       (retry_case (length c.levels) depth born (n + 1) place (current c.levels) c.blocks sound.births (some_current (current c.levels) kind routine own)
       (λ reg e. there_by d place c.levels c.blocks reg owners sound.brackets (subst (λ (k : Kind). IsVerdictOf k (Retry place)) (sym (its_kind (current c.levels) kind routine own reg e)) fits) e))
-  left_list Perc kind routine own fits = just_closed _ (λ k. inl k) (λ k. elim k [ inl with_bracket_closed ↦ with_bracket_closed | inr none ↦ absurd none ])
-  left_list Stop kind routine own fits = just_closed _ (λ k. inl k) (λ k. elim k [ inl with_bracket_closed ↦ with_bracket_closed | inr none ↦ absurd none ])
-  left_list Bad kind routine own fits = just_closed _ (λ k. inl k) (λ k. elim k [ inl with_bracket_closed ↦ with_bracket_closed | inr none ↦ absurd none ])
-  left_list Fail kind routine own fits = just_closed _ (λ k. inl k) (λ k. elim k [ inl with_bracket_closed ↦ with_bracket_closed | inr none ↦ absurd none ])
-  left_list Over kind routine own fits = just_closed _ (λ k. inl k) (λ k. elim k [ inl with_bracket_closed ↦ with_bracket_closed | inr none ↦ absurd none ])
+  left_list _ kind routine own fits = just_closed _ (λ k. inl k) (λ k. elim k [ inl closed ↦ closed | inr none ↦ absurd none ])
 
   left : (verdict : Verdict) (kind : Kind) (routine : ℕ) → IsSomeAnd (current c.levels) (λ reg. (reg.kind ≡ kind) × (reg.born ≡ routine)) → IsVerdictOf kind verdict
       → Turns Place (HasIt (with_routine_left kind routine verdict c)) (HasIt c) (λ s. ⊥) ((depth ≡ depth_in c.levels) ⊎ VerdictKills c verdict depth born) (λ s. verdict_moves c verdict depth born s)
@@ -137,15 +132,15 @@ module _ (d : DeckView) (w : World) (n u : ℕ) (x : UnitBlock) (owners : (v : �
   same_if false s = refl
 
   by_own : (what : What) → IsMade d w n (record { unit = u; what = what })
-      → Turns Place (HasX (own_entry d n w.managers (first_abort (UnitOfWork.pending (unit_at u w.units))) what (core_at u w))) (HasX (core_at u w))
+      → Turns Place (HasX (own_entry d n w.managers (UnitOfWork.pending (unit_at u w.units)) what (core_at u w))) (HasX (core_at u w))
       (EntryMakes d n (core_at u w) w.managers what x.depth x.born) (EntryKills d (core_at u w) what x.depth x.born) (entry_moves d (core_at u w) what x.depth x.born)
   by_own (whats.Exec at rc) m =
       let op : Op = op_at d at.prog at.op in
       card d n (core_at u w) (IsSound.cores m.sound u) x.depth x.born w u rc at op
       (row_of (core_at u w) (surroundings_at d w u op) op rc (outcome_of d w u (whats.Exec at rc) m.may)) refl m.can.what.0.some (one_block w u rc op m.can.what.1)
   by_own (whats.Error at mark) m = opened_error d n (core_at u w) (IsSound.cores m.sound u) x.depth x.born (with_open (Some (error_record (Core.doomed (core_at u w)) mark (op_at d at.prog at.op))))
-  by_own (whats.Land class from mark) m = landed d n (core_at u w) (IsSound.cores m.sound u) x.depth x.born (first_abort (UnitOfWork.pending (unit_at u w.units)))
-  by_own (whats.Enter kind reg mark) m = enters d n (core_at u w) (IsSound.cores m.sound u) x.depth x.born (routine_named kind reg w.managers (core_at u w))
+  by_own (whats.Land class from mark) m = landed d n (core_at u w) (IsSound.cores m.sound u) x.depth x.born (abort_named class from (UnitOfWork.pending (unit_at u w.units)))
+  by_own (whats.Enter kind reg mark bare) m = enters d n (core_at u w) (IsSound.cores m.sound u) x.depth x.born bare (routine_named kind reg w.managers (core_at u w))
   by_own (whats.Leave kind reg verdict logrec dump) m =
       left d n (core_at u w) (IsSound.cores m.sound u) (owners u) x.depth x.born verdict kind reg m.can.what.own
       (verdict_of d (core_at u w) kind verdict (IsCoreSound.nested (IsSound.cores m.sound u)) (outcome_of d w u (whats.Leave kind reg verdict logrec dump) m.may))
@@ -229,16 +224,12 @@ module _ (d : DeckView) (w : World) (n u : ℕ) (x : UnitBlock) (owners : (v : �
 -- At the start the job step task has one
 
 module _ (d : DeckView) (deck : IsTrue (is_well_formed d)) (x : UnitBlock) where
-  length_all : (cards : List UnitCard) → length (map (λ card. unborn_unit) cards ++ unborn_unit ∷ []) ≡ length cards + 1
-  length_all [] = omega arith
-  length_all (c ∷ cs) = let more = length_all cs in omega (arith, more)
-
   start_turns : (b : Bool) → (x.unit == job_step d) ≡ b
       → Turns Place (λ s. IsBlockAt (length (Core.levels (core_at x.unit (start d)))) x.depth (at_place x.born s) (Core.blocks (core_at x.unit (start d)))) (λ s. ⊥) (λ s. IsFirstBlock d (job_step d) 0 x s) ⊥ (λ s. s)
   start_turns true e =
       let same = eqb-true x.unit (job_step d) e in
       let units : List UnitOfWork = map (λ card. unborn_unit) d.units ++ unborn_unit ∷ [] in
-      let within : job_step d < length units = omega (arith, job_within d deck, length_all d.units) in
+      let within : job_step d < length units = omega (arith, job_step_in d deck, length-unborn d.units) in
       let now : core_at x.unit (start d) ≡ born_core 0 (program_of d (job_step d)) [] unborn_unit.core =
       ap (λ (v : ℕ). core_at v (start d)) same ∙ ap UnitOfWork.core (unit_here (job_step d) (at_birth 0 (program_of d (job_step d)) []) units within)
       ∙ ap (λ (k : UnitOfWork). born_core 0 (program_of d (job_step d)) [] k.core) (all_unborn d.units (job_step d)) in
@@ -254,7 +245,7 @@ module _ (d : DeckView) (deck : IsTrue (is_well_formed d)) (x : UnitBlock) where
         stays = λ s h alive. absurd h;
       }
   start_turns false e =
-      let other = not_equal x.unit (job_step d) e in
+      let other = eqb-false x.unit (job_step d) e in
       let units : List UnitOfWork = map (λ card. unborn_unit) d.units ++ unborn_unit ∷ [] in
       let now : core_at x.unit (start d) ≡ unborn_unit.core = ap UnitOfWork.core (unit_there (job_step d) x.unit (at_birth 0 (program_of d (job_step d)) []) units other) ∙ ap UnitOfWork.core (all_unborn d.units x.unit) in
       record {

@@ -1,15 +1,15 @@
 -- A world has the things that live, where each entry adds those that it makes and takes away those of which it is a
 -- death.
-use Rattle.std.proofs.Common.{◌≡◌, ℕ, zero, suc, ◌+◌, ◌<◌, ◌≤◌, List, length, sym, subst, arith, inl, inr, ◌⊎◌}
+use Rattle.std.proofs.Common.{◌≡◌, ℕ, zero, suc, ◌+◌, ◌<◌, ◌≤◌, List, [], length, sym, subst, arith, inl, inr, ◌⊎◌}
 use Rattle.rtm_deck_items.specs.View.{DeckView}
 use Rattle.std.specs.Prelude.{IsTrue, Some, slice_get}
 use Rattle.rtm_deck_items.specs.WellFormed.{is_well_formed}
 use Rattle.rtm_model.specs.declared.entry.Entry.{Entry}
-use Rattle.rtm_model.specs.Applies.{CanApply}
-use Rattle.rtm_model.specs.Births.{advance, world}
+use Rattle.rtm_model.specs.inner.Applies.{CanApply}
+use Rattle.rtm_model.specs.Advance.{advance, world}
 use Rattle.rtm_model.specs.Legal.{Legal, MayFollow}
 use Rattle.rtm_model.specs.Moments.{IsAt, IsIn, before}
-use Rattle.rtm_model.specs.Soundness.{IsSound}
+use Rattle.rtm_model.specs.inner.Soundness.{IsSound}
 use Rattle.rtm_model.specs.World.{World, start}
 use Rattle.rtm_law_births.specs.Life.{HasTheLiving, LivesBefore, Survives, Table}
 use Rattle.rtm_law_births.proofs.Sound.{IsSoundHistory}
@@ -84,6 +84,10 @@ deaths {a} {b} {c} {k1} {k2} one two = record {
 -- nothing was born or died where the list is as it was
 pub same_list : {X : Type 0} (x : X) (before after : List X) → after ≡ before → Moves (IsIn x after) (IsIn x before) ⊥ ⊥
 same_list x before after e = unmoved (λ h. subst (IsIn x) e h) (λ h. subst (IsIn x) (sym e) h) (λ h. h) (λ h. h)
+
+-- all are gone
+pub cleared : {X : Type 0} (x : X) (before : List X) → Moves (IsIn x []) (IsIn x before) ⊥ (Unit {0})
+cleared x before = record { came = λ h. absurd h; born = λ h. absurd h; stays = λ h alive. absurd (alive tt) }
 
 -- after the entry the world has what the entry makes, and what it had and the entry isn't a death of
 abbrev pub Changes : {X : Type 0} → Table X → DeckView → World → ℕ → Entry → X → Type 0

@@ -1,34 +1,30 @@
 -- Births and deaths of units, entry by entry.
-use Rattle.std.proofs.Common.{◌≡◌, ℕ, zero, suc, ◌<◌, ◌≤◌, Bool, true, false, not, List, [], ◌∷◌, length, Option, Some, None, refl, sym, ap, subst, arith, inl, inr, ◌⊎◌, ◌∙◌}
-use Rattle.std.proofs.lemmas.Bool.{eqb-true}
+use Rattle.std.proofs.Common.{◌≡◌, ℕ, ◌<◌, ◌≤◌, Bool, true, false, not, List, [], length, Option, Some, None, refl, sym, ap, subst, arith, inl, inr, ◌⊎◌, ◌∙◌}
+use Rattle.std.proofs.lemmas.Bool.{cases_lt, eqb-false, eqb-true}
 use Rattle.std.proofs.lemmas.List.{get_or-set_other, get_or-set_same, get_or_past}
-use Rattle.std.proofs.lemmas.List.Quantifiers.{position-Some}
-use Rattle.std.specs.Prelude.{IsTrue, if◌then◌else◌, map, position, slice_get, slice_set, unwrap_or, ◌==◌}
-use Rattle.std.specs.List.{list_any}
-use Rattle.rtm_deck_items.specs.Reading.{is_task_card, job_step, op_at}
+use Rattle.std.specs.Prelude.{IsTrue, if◌then◌else◌, map, slice_get, slice_set, ◌==◌}
+use Rattle.rtm_deck_items.specs.Reading.{job_step, op_at}
 use Rattle.rtm_deck_items.specs.View.{DeckView}
 use Rattle.rtm_deck_items.specs.WellFormed.{is_well_formed}
-use Rattle.rtm_deck_items.specs.declared.deck.Unit.{Unit as UnitCard}
 use Rattle.rtm_deck_items.specs.declared.op.Op.{Op}
 use Rattle.rtm_deck_items.specs.declared.op.Op.TheVariants as ops
-use Rattle.rtm_deck_items.proofs.FormFacts.{Conditions, conditions}
 use Rattle.rtm_model.specs.declared.entry.Entry.{Entry}
 use Rattle.rtm_model.specs.declared.entry.What.{What}
 use Rattle.rtm_model.specs.declared.entry.What.TheVariants as whats
 use Rattle.rtm_model.specs.declared.reg.Reg.{Reg}
-use Rattle.rtm_model.specs.Applies.{CanExecute}
-use Rattle.rtm_model.specs.Births.{beyond_card, with_unit}
+use Rattle.rtm_model.specs.inner.Applies.{CanExecute}
+use Rattle.rtm_model.specs.Advance.{beyond_card, with_unit}
 use Rattle.rtm_model.specs.Legal.{Legal}
-use Rattle.rtm_model.specs.Soundness.{IsSound}
+use Rattle.rtm_model.specs.inner.Soundness.{IsSound}
 use Rattle.rtm_model.specs.Tasks.{Dormant, HasEnded, Life, Lives, Tree, ended_life, is_dormant, is_living, life_of, with_birth, with_end}
 use Rattle.rtm_model.specs.World.{UnitOfWork, World, lives_in, related_task, start}
+use Rattle.rtm_model.proofs.Units.{}
+use Rattle.rtm_model.proofs.Start.{all_dormant, job_step_in, length-dormant}
 use Rattle.rtm_law_births.specs.LivingUnits.{AreTheUnits, CardMakes, LivingUnit, master, units}
 use Rattle.rtm_law_births.proofs.Beyond.{arrived_units, own, related_units, step_units}
 use Rattle.rtm_law_births.proofs.Cards.{NamesUnit, unit_named}
 use Rattle.rtm_law_births.proofs.Living.{Changes, Follows, IsMade, Moves, living, unmoved}
-use Rattle.rtm_law_births.proofs.Numbers.{not_equal}
 use Rattle.rtm_law_births.proofs.Sound.{IsSoundHistory}
-use Rattle.rtm_law_births.proofs.Units.{within_or}
 
 -- the unit lives, as that task's subtask or as nobody's
 abbrev pub LivesAs : List Life → LivingUnit → Type 0
@@ -53,7 +49,7 @@ born_if x lives unit mother within dormant true e =
           absurd cc;
     }
 born_if x lives unit mother within dormant false e =
-    let other = not_equal x.unit unit e in
+    let other = eqb-false x.unit unit e in
     let same : life_of x.unit (slice_set lives unit (Lives mother)) ≡ life_of x.unit lives = get_or-set_other lives unit x.unit (Lives mother) Dormant other in
     unmoved (λ h. sym same ∙ h) (λ h. same ∙ h) (λ h. other h.0) (λ h. h)
 
@@ -77,7 +73,7 @@ end_if x lives unit within true e =
       stays = λ h alive. absurd (alive same);
     }
 end_if x lives unit within false e =
-    let other = not_equal x.unit unit e in
+    let other = eqb-false x.unit unit e in
     let same : life_of x.unit (with_end unit lives) ≡ life_of x.unit lives = get_or-set_other lives unit x.unit (ended_life (life_of unit lives)) Dormant other in
     unmoved (λ h. sym same ∙ h) (λ h. same ∙ h) (λ h. h) other
 
@@ -93,7 +89,7 @@ there_or w u h (inr past) =
     absurd cc
 
 there : (w : World) (u : ℕ) → lives_in w u ≡ true → u < length (Tree.lives w.tree)
-there w u h = there_or w u h (within_or u (length (Tree.lives w.tree)))
+there w u h = there_or w u h (cases_lt u (length (Tree.lives w.tree)))
 
 module _ (d : DeckView) (n u rc : ℕ) (w : World) (units2 : List UnitOfWork) (x : LivingUnit) (sound : IsSound d n w) where
   -- a card makes a unit where it is executed with 0
@@ -107,7 +103,7 @@ module _ (d : DeckView) (n u rc : ℕ) (w : World) (units2 : List UnitOfWork) (x
         born = λ h. moves.born (h.1, h.2);
         stays = moves.stays;
       }
-  with_rc unit mother estais named can false e = unmoved (λ h. h) (λ h. h) (λ h. not_equal rc 0 e h.0) (λ h. h)
+  with_rc unit mother estais named can false e = unmoved (λ h. h) (λ h. h) (λ h. eqb-false rc 0 e h.0) (λ h. h)
 
   card : (op : Op) → NamesUnit d op → CanExecute w u rc op
       → Moves (LivesAs (Tree.lives (World.tree (beyond_card d n u rc op (record w { units = units2 })))) x) (LivesAs (Tree.lives w.tree) x) (CardMakes u rc op x) ⊥
@@ -166,33 +162,12 @@ follows_over = record {
 }
 
 -- at the start the job step task lives
-dormant_all : (cards : List UnitCard) (v : ℕ) → life_of v (map (λ card. Dormant) cards) ≡ Dormant
-dormant_all [] v = refl
-dormant_all (c ∷ cs) zero = refl
-dormant_all (c ∷ cs) (suc v) = dormant_all cs v
-
-some_unit : (cards : List UnitCard) → IsTrue (list_any is_task_card cards) → 0 < length cards
-some_unit [] h = absurd cc
-some_unit (c ∷ cs) h = omega arith
-
-job_in : (cards : List UnitCard) (o : Option ℕ) → position is_task_card cards ≡ o → IsTrue (list_any is_task_card cards) → unwrap_or o 0 < length cards
-job_in cards None e h = some_unit cards h
-job_in [] (Some i) e h = absurd cc
-job_in (c ∷ cs) (Some i) e h = (position-Some is_task_card (c ∷ cs) i c e).0
-
-pub job_within : (d : DeckView) → IsTrue (is_well_formed d) → job_step d < length d.units
-job_within d deck = job_in d.units (position is_task_card d.units) refl (Conditions.task (conditions d deck))
-
-length_dormant : (cards : List UnitCard) → length (map (λ card. Dormant) cards) ≡ length cards
-length_dormant [] = refl
-length_dormant (c ∷ cs) = ap suc (length_dormant cs)
-
 start_moves : (d : DeckView) → IsTrue (is_well_formed d) → (x : LivingUnit) (b : Bool) → (x.unit == job_step d) ≡ b
     → Moves (LivesAs (Tree.lives (World.tree (start d))) x) ⊥ ((x.unit ≡ job_step d) × (x.mother ≡ None)) ⊥
 start_moves d deck x true e =
     let same = eqb-true x.unit (job_step d) e in
     let lives : List Life = map (λ card. Dormant) d.units in
-    let within : job_step d < length lives = omega (arith, job_within d deck, length_dormant d.units) in
+    let within : job_step d < length lives = omega (arith, job_step_in d deck, length-dormant d.units) in
     let now : life_of x.unit (slice_set lives (job_step d) (Lives None)) ≡ Lives None = rw same (get_or-set_same lives (job_step d) (Lives None) Dormant within) in
     record {
       came = λ h. let one : Lives None ≡ Lives x.mother = sym now ∙ h in let two : x.mother ≡ None = cc in inl (same, two);
@@ -200,9 +175,9 @@ start_moves d deck x true e =
       stays = λ h alive. absurd h;
     }
 start_moves d deck x false e =
-    let other = not_equal x.unit (job_step d) e in
+    let other = eqb-false x.unit (job_step d) e in
     let lives : List Life = map (λ card. Dormant) d.units in
-    let now : life_of x.unit (slice_set lives (job_step d) (Lives None)) ≡ Dormant = get_or-set_other lives (job_step d) x.unit (Lives None) Dormant other ∙ dormant_all d.units x.unit in
+    let now : life_of x.unit (slice_set lives (job_step d) (Lives None)) ≡ Dormant = get_or-set_other lives (job_step d) x.unit (Lives None) Dormant other ∙ all_dormant d.units x.unit in
     record {
       came = λ h. let one : Dormant ≡ Lives x.mother = sym now ∙ h in absurd cc;
       born = λ h. absurd (other h.0);

@@ -11,13 +11,13 @@ use Rattle.rtm_model.specs.declared.entry.What.TheVariants as whats
 use Rattle.rtm_model.specs.declared.holding.Manager1.{Manager1}
 use Rattle.rtm_model.specs.declared.reg.Kind.{Kind}
 use Rattle.rtm_model.specs.declared.reg.Kind.TheVariants.{Estae, Estai, Frr, Mgr}
-use Rattle.rtm_model.specs.Births.{after_attach, beyond_card, managers_left, with_unit}
+use Rattle.rtm_model.specs.Advance.{after_attach, beyond_card, managers_left, with_unit}
 use Rattle.rtm_model.specs.Cards.{row}
 use Rattle.rtm_model.specs.Ending.{after_delete, is_equal_manager, is_of_task, is_same_task, newest_manager, without_managers_of}
 use Rattle.rtm_model.specs.Legal.{Legal}
 use Rattle.rtm_model.specs.Moments.{IsIn}
 use Rattle.rtm_model.specs.Surroundings.{manager_task, surroundings_at}
-use Rattle.rtm_model.specs.Soundness.{IsSound, ManagersFall}
+use Rattle.rtm_model.specs.inner.Soundness.{IsSound, ManagersFall}
 use Rattle.rtm_model.specs.World.{UnitOfWork, World, core_at, related_task}
 use Rattle.rtm_model.specs.declared.outcome.Outcome.TheVariants.{Executed}
 use Rattle.rtm_law_births.specs.Managers.{AreTheManagers, CardKills, CardMakes, managers}
@@ -105,18 +105,13 @@ module _ (d : DeckView) (w : World) (n u : ℕ) (x : Manager1) where
   entry (whats.Exec at rc) m =
       card d n u rc w (World.units (own d w n u (whats.Exec at rc))) x (IsSound.managers_fall m.sound) (op_at d at.prog at.op)
       (row_of (core_at u w) (surroundings_at d w u (op_at d at.prog at.op)) (op_at d at.prog at.op) rc (outcome_of d w u (whats.Exec at rc) m.may))
-  entry (whats.Error at mark) m = unmoved (λ h. h) (λ h. h) (λ h. h) (λ h. h)
-  entry (whats.Land class from mark) m = unmoved (λ h. h) (λ h. h) (λ h. h) (λ h. h)
-  entry (whats.Enter kind reg mark) m = unmoved (λ h. h) (λ h. h) (λ h. h) (λ h. h)
   entry (whats.Leave kind reg verdict logrec dump) m = left d n u 0 w w.units x (IsSound.managers_fall m.sound) kind reg
   entry (whats.Arrive cmd fate) m =
       same_list x w.managers _ (ap World.managers (arrived_units n u (slice_get d.commands cmd) (own d w n u (whats.Arrive cmd fate))))
-  entry (whats.Begin code dump) m = unmoved (λ h. h) (λ h. h) (λ h. h) (λ h. h)
-  entry (whats.Release class id owner) m = unmoved (λ h. h) (λ h. h) (λ h. h) (λ h. h)
   entry (whats.Done code to_task to_step) m =
       same_list x w.managers _ (ap World.managers (step_units n (not (u == job_step d)) (job_step d) _ _) ∙ ap World.managers (related_units n (related_task d u) _ _))
   entry (whats.Purge unit) m = purged_of d n u 0 w w.units x (IsSound.managers_fall m.sound) unit
-  entry whats.MemEnd m = unmoved (λ h. h) (λ h. h) (λ h. h) (λ h. h)
+  entry _ m = unmoved (λ h. h) (λ h. h) (λ h. h) (λ h. h)
 
 follows : Follows managers
 follows = record {

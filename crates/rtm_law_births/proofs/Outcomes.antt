@@ -24,13 +24,13 @@ use Rattle.rtm_model.specs.declared.reg.Kind.{Kind}
 use Rattle.rtm_model.specs.declared.reg.Kind.TheVariants.{Estae, Estai, Frr, Mgr}
 use Rattle.rtm_model.specs.declared.reg.Reg.{Reg}
 use Rattle.rtm_model.specs.Blocks.{newest_block, place_or_none}
-use Rattle.rtm_model.specs.Cards.{mode_error, outcome, outcome_by, rc_if, row, unless}
+use Rattle.rtm_model.specs.Cards.{fails, mode_error, outcome, outcome_by, rc_if, row, too_deep, unless}
 use Rattle.rtm_model.specs.Ending.{next_manager, next_release}
 use Rattle.rtm_model.specs.Levels.{Bracket, current, error_in, is_manager, is_recovery, verdict_in, verdict_of_routine}
 use Rattle.rtm_model.specs.NextEntry.{retry_prog, card_entry, card_entry_at, card_entry_by, done_of, eligible_routine, ends_step, first_case, ending_or_card, handling_of, is_from_error, is_outermost, next_landing, manager_or, master_act, next, next_master, next_of_master, next_of_unit, next_unit, release_or, last_return, unit_act}
 use Rattle.rtm_model.specs.Surroundings.{related_fate, step_fate, surroundings, surroundings_at, whose}
 use Rattle.rtm_model.specs.Record.{is_estai, retry_place, verdict_by}
-use Rattle.rtm_model.specs.Soundness.{AreNested, StandsIn}
+use Rattle.rtm_model.specs.inner.Soundness.{AreNested, StandsIn}
 use Rattle.rtm_model.specs.Tasks.{Tree, has_subtask, is_living}
 use Rattle.rtm_model.specs.World.{Beginning, Core, World, core_at, lives_in, master, related_task}
 
@@ -55,7 +55,7 @@ abbrev pub IsOutcome : DeckView → World → ℕ → What → Type 0
 IsOutcome d w u (Exec at rc) = outcome (core_at u w) (surroundings_at d w u (op_at d at.prog at.op)) (op_at d at.prog at.op) ≡ Executed rc
 IsOutcome d w u (Leave kind reg verdict logrec dump) = (verdict ≡ Fail) ⊎ IsJudged d (core_at u w) kind verdict
 IsOutcome d w u (Done code to_task to_step) = FatesAre d w u to_task to_step (Core.begun (core_at u w))
-IsOutcome d w u (Enter kind reg mark) = IsStarted (core_at u w) kind reg
+IsOutcome d w u (Enter kind reg mark bare) = IsStarted (core_at u w) kind reg
 IsOutcome d w u (Purge unit) = u ≡ master d
 IsOutcome d w u _ = Unit {0}
 
@@ -72,7 +72,7 @@ module _ (d : DeckView) (w : World) (u : ℕ) where
   if_either false x y h i = i
 
   -- an error is open
-  chosen_ok : (r : ErrorRecord) (routine own : Option Reg) → eligible_routine (core_at u w) r ≡ routine → IsOutcome d w u (handling_of r routine own)
+  chosen_ok : (r : ErrorRecord) (routine own : Option Reg) → eligible_routine (core_at u w) r ≡ routine → IsOutcome d w u (handling_of d.sdwa r routine own)
   chosen_ok r (Some reg) own e =
       inr (r, subst (λ (o : Option Reg). IsSomeAnd o (λ routine. (reg.kind ≡ routine.kind) × (reg.born ≡ routine.born))) (sym e) (refl, refl))
   chosen_ok r None (Some own) e = inl refl
@@ -128,7 +128,7 @@ module _ (d : DeckView) (w : World) (u : ℕ) where
   -- the cases
   first_ok : (o : Option ErrorRecord) → error_in (Core.levels (core_at u w)) ≡ o → (abort : Option Abort) (rest : Option What)
       → (error_in (Core.levels (core_at u w)) ≡ None → IfSome rest (IsOutcome d w u))
-      → IfSome (first_case (core_at u w) o abort rest) (IsOutcome d w u)
+      → IfSome (first_case d.sdwa (core_at u w) o abort rest) (IsOutcome d w u)
   first_ok (Some r) e abort rest h = chosen_ok r (eligible_routine (core_at u w) r) (current (Core.levels (core_at u w))) refl
   first_ok None e (Some abort) rest h = tt
   first_ok None e None rest h = h e
@@ -182,6 +182,11 @@ executed_rc n rc e = cc
 pub unless_rc : (b : Bool) (code : Code) (rc : ℕ) → unless b code ≡ Executed rc → rc ≡ 0
 unless_rc true code rc e = absurd cc
 unless_rc false code rc e = cc
+
+-- so is one that makes a routine
+pub deep_rc : (deep full : Bool) (code : Code) (rc : ℕ) → (if deep then fails too_deep else unless full code) ≡ Executed rc → rc ≡ 0
+deep_rc true full code rc e = absurd cc
+deep_rc false full code rc e = unless_rc full code rc e
 
 -- what a card speaks of is there where it is executed with 0
 pub there_rc : (b : Bool) (other rc : ℕ) → Executed (rc_if b other) ≡ Executed rc → b ≡ true → rc ≡ 0

@@ -8,8 +8,8 @@ use Rattle.rtm_model.specs.declared.block.Place.{Place}
 use Rattle.rtm_model.specs.declared.entry.What.{What}
 use Rattle.rtm_model.specs.declared.entry.What.TheVariants as whats
 use Rattle.rtm_model.specs.declared.reg.Reg.{Reg}
-use Rattle.rtm_model.specs.Aborts.{first_abort}
-use Rattle.rtm_model.specs.Births.{advance, own_entry, purged_core}
+use Rattle.rtm_model.specs.OwnChange.{own_entry}
+use Rattle.rtm_model.specs.Advance.{advance, purged_core}
 use Rattle.rtm_model.specs.World.{Core, UnitOfWork, World, born_core, core_at, unit_at}
 use Rattle.rtm_law_births.specs.Units.{IsPurgeOf}
 use Rattle.rtm_law_births.proofs.Cores.{After, BirthOr, unit_moves}
@@ -50,21 +50,13 @@ module _ (d : DeckView) (w : World) (n u v : ℕ) (has : Core → Type 0) (B K :
     stays = λ h alive. absurd (alive (inr (sym is.0)));
   }
   by_others (whats.Purge unit) m after (inr apart) births = still (whats.Purge unit) after (core_at v w) (λ h. h) (λ k. apart.0 (sym k)) apart.1
-  by_others (whats.Error at mark) m after h births = still (whats.Error at mark) after (core_at v w) (λ h. h) (λ k. k) h
-  by_others (whats.Land class from mark) m after h births = still (whats.Land class from mark) after (core_at v w) (λ h. h) (λ k. k) h
-  by_others (whats.Enter kind reg mark) m after h births = still (whats.Enter kind reg mark) after (core_at v w) (λ h. h) (λ k. k) h
-  by_others (whats.Leave kind reg verdict logrec dump) m after h births = still (whats.Leave kind reg verdict logrec dump) after (core_at v w) (λ h. h) (λ k. k) h
-  by_others (whats.Arrive cmd became) m after h births = still (whats.Arrive cmd became) after (core_at v w) (λ h. h) (λ k. k) h
-  by_others (whats.Begin code dump) m after h births = still (whats.Begin code dump) after (core_at v w) (λ h. h) (λ k. k) h
-  by_others (whats.Release class id owner) m after h births = still (whats.Release class id owner) after (core_at v w) (λ h. h) (λ k. k) h
-  by_others (whats.Done code to_task to_step) m after h births = still (whats.Done code to_task to_step) after (core_at v w) (λ h. h) (λ k. k) h
-  by_others whats.MemEnd m after h births = still whats.MemEnd after (core_at v w) (λ h. h) (λ k. k) h
+  by_others what m after h births = still what after (core_at v w) (λ h. h) (λ k. k) h
 
 -- every entry: `mine` by the unit itself, `births` by the card of another
 pub owned_moves : (d : DeckView) (w : World) (n u v : ℕ) (what : What) (m : IsMade d w n (record { unit = u; what = what })) (has : Core → Type 0) (B K : Type 0) (E : ℕ → Op → Type 0)
     → ((c : Core) → has (purged_core c) → ⊥)
     → (v ≡ u → ByBirth d E what → ⊥)
-    → (v ≡ u → Moves (has (own_entry d n w.managers (first_abort (UnitOfWork.pending (unit_at u w.units))) what (core_at u w))) (has (core_at u w)) B K)
+    → (v ≡ u → Moves (has (own_entry d n w.managers (UnitOfWork.pending (unit_at u w.units)) what (core_at u w))) (has (core_at u w)) B K)
     → ((v ≡ u → ⊥) → (after : Core) → (at : Place) (rc : ℕ) → what ≡ whats.Exec at rc → BirthOr d w n u v rc (op_at d at.prog at.op) after (core_at v w) → Moves (has after) (has (core_at v w)) (E rc (op_at d at.prog at.op)) ⊥)
     → Moves (has (core_at v (advance d w n (record { unit = u; what = what })))) (has (core_at v w)) (((v ≡ u) × B) ⊎ ByBirth d E what) (((v ≡ u) × K) ⊎ IsPurgeOf v what)
 owned_moves d w n u v what m has B K E purged unborn mine births =
@@ -94,7 +86,7 @@ card_births d w n u v rc _ has forth back after before h = unmoved (λ k. subst 
 pub unit_own_moves : (d : DeckView) (w : World) (n u v : ℕ) (what : What) (m : IsMade d w n (record { unit = u; what = what })) (has : Core → Type 0) (B K : Type 0)
     → ((c : Core) → has (purged_core c) → ⊥)
     → ((born prog : ℕ) (estais : List Reg) (c : Core) → has (born_core born prog estais c) → has c) → ((born prog : ℕ) (estais : List Reg) (c : Core) → has c → has (born_core born prog estais c))
-    → (v ≡ u → Moves (has (own_entry d n w.managers (first_abort (UnitOfWork.pending (unit_at u w.units))) what (core_at u w))) (has (core_at u w)) B K)
+    → (v ≡ u → Moves (has (own_entry d n w.managers (UnitOfWork.pending (unit_at u w.units)) what (core_at u w))) (has (core_at u w)) B K)
     → Moves (has (core_at v (advance d w n (record { unit = u; what = what })))) (has (core_at v w)) ((v ≡ u) × B) (((v ≡ u) × K) ⊎ IsPurgeOf v what)
 unit_own_moves d w n u v what m has B K purged forth back mine =
     said_by (λ h. h) (λ h. h) (λ h. h) (λ h. h) (λ h. elim h [ inl own ↦ own | inr born ↦ absurd (no_birth d what born) ]) (λ h. inl h) (λ k. k) (λ k. k)

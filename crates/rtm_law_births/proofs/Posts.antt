@@ -1,6 +1,6 @@
 -- What a post leaves of pending aborts, and what becomes of it.
 use Rattle.std.proofs.Common.{◌≡◌, ℕ, zero, suc, ◌<◌, ◌≤◌, Bool, true, false, not, ◌||◌, List, [], ◌∷◌, ◌++◌, length, refl, sym, ap, subst, arith, inl, inr, ◌⊎◌, ◌∙◌}
-use Rattle.std.proofs.lemmas.Bool.{eqb-true}
+use Rattle.std.proofs.lemmas.Bool.{cases_lt, eqb-false, eqb-true}
 use Rattle.std.proofs.lemmas.List.{get_or_past, set_past}
 use Rattle.std.specs.List.{AllByRecursion}
 use Rattle.std.specs.Prelude.{if◌then◌else◌, is_some, ◌==◌}
@@ -10,17 +10,16 @@ use Rattle.rtm_model.specs.declared.entry.Fate.{Fate}
 use Rattle.rtm_model.specs.declared.entry.Fate.TheVariants.{Late, Merged, Queued}
 use Rattle.rtm_model.specs.declared.outcome.Outcome.TheVariants.{Executed}
 use Rattle.rtm_model.specs.Aborts.{fate_of, has_class, is_of_class, with_abort}
-use Rattle.rtm_model.specs.Births.{post_to, post_to_subtasks, with_posted}
+use Rattle.rtm_model.specs.Posts.{post_to, post_to_subtasks, with_posted}
 use Rattle.rtm_model.specs.Cards.{fate_rc}
 use Rattle.rtm_model.specs.Moments.{IsIn}
 use Rattle.rtm_model.specs.Surroundings.{fate_in, is_late}
 use Rattle.rtm_model.specs.Tasks.{Dormant, HasEnded, Life, Lives, Tree, is_living, is_subtask_of, life_of}
 use Rattle.rtm_model.specs.World.{Core, UnitOfWork, World, core_at, lives_in, unit_at}
+use Rattle.rtm_model.proofs.Units.{unit_here, unit_there}
 use Rattle.rtm_law_births.specs.Aborts.{ComeInTurn, ComesBefore}
 use Rattle.rtm_law_births.proofs.Lists.{append_left, append_right, in_append}
 use Rattle.rtm_law_births.proofs.Living.{Moves, same_list, said_by, unmoved}
-use Rattle.rtm_law_births.proofs.Numbers.{not_equal}
-use Rattle.rtm_law_births.proofs.Units.{unit_here, unit_there, within_or}
 
 -- the aborts that are pending for a unit
 abbrev pub pending_of : ℕ → List UnitOfWork → List Abort
@@ -60,7 +59,7 @@ module _ (w : World) (lens : length (Tree.lives w.tree) ≤ length w.units) (t :
       ∙ ap (λ (l : Bool). with_abort l abort (pending_of t w.units)) (sym late)
 
   pub posted_here : pending_of t (World.units (post_to t abort w)) ≡ with_abort (is_late w t) abort (pending_of t w.units)
-  posted_here = target_list (within_or t (length w.units))
+  posted_here = target_list (cases_lt t (length w.units))
 
   pub posted_there : (v : ℕ) → (v ≡ t → ⊥) → pending_of v (World.units (post_to t abort w)) ≡ pending_of v w.units
   posted_there v other = ap UnitOfWork.pending (unit_there t v (with_posted (is_late w t) abort) w.units other)
@@ -76,7 +75,7 @@ module _ (w : World) (lens : length (Tree.lives w.tree) ≤ length w.units) (t :
       (λ h. subst (λ (i : ℕ). IsIn a (pending_of i w.units)) same h)
       (λ h. (same, h.0, h.1)) (λ h. (h.1, h.2)) (λ h. h) (λ h. h) there
   posts_if a v false e =
-      let other = not_equal v t e in
+      let other = eqb-false v t e in
       said_by (λ h. h) (λ h. h) (λ h. h) (λ h. h) (λ h. absurd h) (λ h. other h.0) (λ h. h) (λ h. h)
       (same_list a (pending_of v w.units) (pending_of v (World.units (post_to t abort w))) (posted_there v other))
 
@@ -86,7 +85,7 @@ module _ (w : World) (lens : length (Tree.lives w.tree) ≤ length w.units) (t :
   -- the list is as it was, or has the abort besides
   grows_if : (v : ℕ) (b : Bool) → (v == t) ≡ b → (pending_of v (World.units (post_to t abort w)) ≡ pending_of v w.units) ⊎ ((late : Bool) × (pending_of v (World.units (post_to t abort w)) ≡ with_abort late abort (pending_of v w.units)))
   grows_if v true e = let same = eqb-true v t e in inr (is_late w t, rw same posted_here)
-  grows_if v false e = inl (posted_there v (not_equal v t e))
+  grows_if v false e = inl (posted_there v (eqb-false v t e))
 
   pub grows : (v : ℕ) → (pending_of v (World.units (post_to t abort w)) ≡ pending_of v w.units) ⊎ ((late : Bool) × (pending_of v (World.units (post_to t abort w)) ≡ with_abort late abort (pending_of v w.units)))
   grows v = grows_if v (v == t) refl

@@ -1,14 +1,13 @@
 -- Births and deaths of request blocks, and their places: lists of brackets.
 use Rattle.std.proofs.Common.{◌≡◌, ℕ, ◌<◌, ◌≤◌, ◌+◌, ◌-◌, Bool, true, false, cond, List, [], ◌∷◌, Some, refl, sym, ap, subst, arith, inl, inr, ◌∙◌}
-use Rattle.std.proofs.lemmas.Bool.{eqb-true}
+use Rattle.std.proofs.lemmas.Bool.{eq-eqb, eqb-true, ne_eqb}
 use Rattle.std.specs.Prelude.{find, if◌then◌else◌, is_some, ◌==◌}
 use Rattle.rtm_model.specs.declared.block.Block.{Block}
 use Rattle.rtm_model.specs.declared.block.Place.{Place}
 use Rattle.rtm_model.specs.Blocks.{birth_or_zero, block_of, first_place, from_birth, from_first, is_block_of, newest, with_newest_at}
 use Rattle.rtm_model.specs.Moments.{IsIn}
-use Rattle.rtm_model.specs.Soundness.{BlocksFall}
+use Rattle.rtm_model.specs.inner.Soundness.{BlocksFall}
 use Rattle.rtm_law_births.specs.RequestBlocks.{IsBlockAt}
-use Rattle.rtm_law_births.proofs.Numbers.{equal_by, unequal}
 use Rattle.rtm_law_births.proofs.States.{Turns}
 
 -- a request block by its birth and place
@@ -47,7 +46,7 @@ same_block born b e = ap (λ (k : ℕ). at_place k b.place) e
 
 moved_block : (born : ℕ) (place : Place) (b : Block) (s : Place) → born ≡ b.born → at_place born (if born == b.born then place else s) ≡ record b { place = place }
 moved_block born place b s e =
-    ap (at_place born) (if_is place s (born == b.born) (equal_by born b.born e)) ∙ ap (λ (k : ℕ). at_place k place) e
+    ap (at_place born) (if_is place s (born == b.born) (eq-eqb born b.born e)) ∙ ap (λ (k : ℕ). at_place k place) e
 
 -- the newest is moved to a place
 pub moved_list : (n : ℕ) (born : ℕ) (place : Place) (bs : List Block) → BlocksFall n bs
@@ -57,10 +56,10 @@ moved_list n born place (b ∷ older) f = record {
   came = λ s h. elim h [
     | inl here ↦
         let birth : born ≡ b.born = ap Block.born here in
-        inr (b.place, inl (same_block born b birth), λ k. k, ap Block.place here ∙ sym (if_is place b.place (born == b.born) (equal_by born b.born birth)))
+        inr (b.place, inl (same_block born b birth), λ k. k, ap Block.place here ∙ sym (if_is place b.place (born == b.born) (eq-eqb born b.born birth)))
     | inr more ↦
         let less = born_below b.born older (at_place born s) f.1 more in
-        inr (s, inr more, λ k. k, sym (if_not place s (born == b.born) (unequal born b.born (λ e. omega (arith, less, e)))))
+        inr (s, inr more, λ k. k, sym (if_not place s (born == b.born) (ne_eqb born b.born (λ e. omega (arith, less, e)))))
   ];
   born = λ s h. absurd h;
   stays = λ s h alive. elim h [
@@ -69,7 +68,7 @@ moved_list n born place (b ∷ older) f = record {
         inl (moved_block born place b s birth)
     | inr more ↦
         let less = born_below b.born older (at_place born s) f.1 more in
-        inr (subst (λ (p : Place). IsIn (at_place born p) older) (sym (if_not place s (born == b.born) (unequal born b.born (λ e. omega (arith, less, e))))) more)
+        inr (subst (λ (p : Place). IsIn (at_place born p) older) (sym (if_not place s (born == b.born) (ne_eqb born b.born (λ e. omega (arith, less, e))))) more)
   ];
 }
 
@@ -94,19 +93,19 @@ cut_if n r born place y ys f true e more older some =
       came = λ s h. elim h [
         | inl here ↦
             let birth : born ≡ y.born = ap Block.born here in
-            inr (y.place, inl (same_block born y birth), λ k. omega (arith, k, birth, is), ap Block.place here ∙ sym (if_is place y.place (born == r) (equal_by born r (birth ∙ is))))
+            inr (y.place, inl (same_block born y birth), λ k. omega (arith, k, birth, is), ap Block.place here ∙ sym (if_is place y.place (born == r) (eq-eqb born r (birth ∙ is))))
         | inr rest ↦
             let less = born_below y.born ys (at_place born s) f.1 rest in
-            inr (s, inr rest, λ k. omega (arith, k, less, is), sym (if_not place s (born == r) (unequal born r (λ e2. omega (arith, less, e2, is)))))
+            inr (s, inr rest, λ k. omega (arith, k, less, is), sym (if_not place s (born == r) (ne_eqb born r (λ e2. omega (arith, less, e2, is)))))
       ];
       born = λ s h. absurd h;
       stays = λ s h alive. elim h [
         | inl here ↦
             let birth : born ≡ y.born = ap Block.born here in
-            inl (ap (at_place born) (if_is place s (born == r) (equal_by born r (birth ∙ is))) ∙ ap (λ (k : ℕ). at_place k place) birth)
+            inl (ap (at_place born) (if_is place s (born == r) (eq-eqb born r (birth ∙ is))) ∙ ap (λ (k : ℕ). at_place k place) birth)
         | inr rest ↦
             let less = born_below y.born ys (at_place born s) f.1 rest in
-            inr (subst (λ (p : Place). IsIn (at_place born p) ys) (sym (if_not place s (born == r) (unequal born r (λ e2. omega (arith, less, e2, is))))) rest)
+            inr (subst (λ (p : Place). IsIn (at_place born p) ys) (sym (if_not place s (born == r) (ne_eqb born r (λ e2. omega (arith, less, e2, is))))) rest)
       ];
     }
 cut_if n r born place y ys f false e more older some =
@@ -152,20 +151,20 @@ module _ (count depth born : ℕ) (bs bs2 : List Block) (outer : List (List Bloc
     came = λ s h. elim h [
       | inl here ↦ elim (turns.came s here.1) [
         | inl born ↦ inl (here.0, born)
-        | inr stayed ↦ inr (stayed.0, inl (here.0, stayed.1), λ k. stayed.2 k.1, stayed.3 ∙ sym (if_is (change stayed.0) stayed.0 (depth + 1 == count) (equal_by (depth + 1) count here.0)))
+        | inr stayed ↦ inr (stayed.0, inl (here.0, stayed.1), λ k. stayed.2 k.1, stayed.3 ∙ sym (if_is (change stayed.0) stayed.0 (depth + 1 == count) (eq-eqb (depth + 1) count here.0)))
       ]
       | inr more ↦
           let apart = strictly count depth (at_place born s) outer more in
-          inr (s, inr more, λ k. omega (arith, k.0, apart), sym (if_not (change s) s (depth + 1 == count) (unequal (depth + 1) count (λ e. omega (arith, e, apart)))))
+          inr (s, inr more, λ k. omega (arith, k.0, apart), sym (if_not (change s) s (depth + 1 == count) (ne_eqb (depth + 1) count (λ e. omega (arith, e, apart)))))
     ];
     born = λ s h. inl (h.0, turns.born s h.1);
     stays = λ s h alive. elim h [
       | inl here ↦
-          subst (λ (p : Place). IsBlockAt count depth (at_place born p) (bs2 ∷ outer)) (sym (if_is (change s) s (depth + 1 == count) (equal_by (depth + 1) count here.0)))
+          subst (λ (p : Place). IsBlockAt count depth (at_place born p) (bs2 ∷ outer)) (sym (if_is (change s) s (depth + 1 == count) (eq-eqb (depth + 1) count here.0)))
           (inl (here.0, turns.stays s here.1 (λ k. alive (here.0, k))))
       | inr more ↦
           let apart = strictly count depth (at_place born s) outer more in
-          subst (λ (p : Place). IsBlockAt count depth (at_place born p) (bs2 ∷ outer)) (sym (if_not (change s) s (depth + 1 == count) (unequal (depth + 1) count (λ e. omega (arith, e, apart)))))
+          subst (λ (p : Place). IsBlockAt count depth (at_place born p) (bs2 ∷ outer)) (sym (if_not (change s) s (depth + 1 == count) (ne_eqb (depth + 1) count (λ e. omega (arith, e, apart)))))
           (inr more)
     ];
   }

@@ -7,11 +7,11 @@ use Rattle.rtm_model.specs.declared.error_record.ErrorRecord.{ErrorRecord}
 use Rattle.rtm_model.specs.declared.reg.Kind.{Kind}
 use Rattle.rtm_model.specs.declared.reg.Kind.TheVariants.{Estae, Estai, Frr, Mgr}
 use Rattle.rtm_model.specs.declared.reg.Reg.{Reg}
-use Rattle.rtm_model.specs.Births.{is_gone_after, without_left}
+use Rattle.rtm_model.specs.OwnChange.{is_gone_after, without_left}
 use Rattle.rtm_model.specs.Chains.{is_of_depth, with_in_place, without_born, without_depth, without_first}
 use Rattle.rtm_model.specs.Levels.{record_in}
 use Rattle.rtm_model.specs.Moments.{IsIn}
-use Rattle.rtm_model.specs.Soundness.{RoutinesFall}
+use Rattle.rtm_model.specs.inner.Soundness.{RoutinesFall}
 use Rattle.rtm_model.specs.World.{Core}
 use Rattle.rtm_law_births.specs.Routines.{IsItsLeave, RemovesRoutine}
 use Rattle.rtm_law_births.proofs.Lists.{Falls, filter_in, in_filter, in_with_in_place, in_without_first, placed_in, with_in_place_in, without_first_in}

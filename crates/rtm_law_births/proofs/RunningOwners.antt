@@ -1,12 +1,11 @@
 -- An ESTAE routine that runs has its owner in the bracket around its own.
 use Rattle.std.proofs.Common.{◌≡◌, ℕ, ◌<◌, ◌-◌, Bool, true, false, cond, ◌&&◌, List, [], ◌∷◌, length, Option, Some, None, refl, sym, ap, subst, arith, inl, inr, ◌⊎◌, ◌∙◌}
-use Rattle.std.proofs.lemmas.Bool.{eqb-true}
+use Rattle.std.proofs.lemmas.Bool.{and_parts, eqb-false, eqb-true}
 use Rattle.std.specs.Prelude.{IsSome, IsSomeAnd, find, if◌then◌else◌, is_some, slice_index_or, ◌==◌}
 use Rattle.rtm_deck_items.specs.Reading.{op_at, program_of}
 use Rattle.rtm_deck_items.specs.View.{DeckView}
 use Rattle.rtm_deck_items.specs.declared.op.Op.{Op}
 use Rattle.rtm_deck_items.specs.declared.op.Op.TheVariants as ops
-use Rattle.rtm_deck_items.specs.declared.op.Setrp.{Setrp}
 use Rattle.rtm_model.specs.declared.abort.Abort.{Abort}
 use Rattle.rtm_model.specs.declared.block.Block.{Block}
 use Rattle.rtm_model.specs.declared.block.Place.{Place}
@@ -18,15 +17,17 @@ use Rattle.rtm_model.specs.declared.error_record.ErrorRecord.{ErrorRecord}
 use Rattle.rtm_model.specs.declared.reg.Kind.{Kind}
 use Rattle.rtm_model.specs.declared.reg.Kind.TheVariants.{Estae, Estai, Frr, Mgr}
 use Rattle.rtm_model.specs.declared.reg.Reg.{Reg}
-use Rattle.rtm_model.specs.Aborts.{first_abort}
-use Rattle.rtm_model.specs.Applies.{CanEnter, CanExecute}
-use Rattle.rtm_model.specs.Births.{advance, after_retry, block_birth, new_estai, routine_born_at, with_bracket_closed, with_routine_entered, error_record, is_gone_after, own_card, own_entry, place_after, routine_named, with_landed, without_routine}
+use Rattle.rtm_model.specs.Aborts.{abort_named}
+use Rattle.rtm_model.specs.inner.Applies.{CanEnter, CanExecute}
+use Rattle.rtm_model.specs.Births.{block_birth, new_estai}
+use Rattle.rtm_model.specs.OwnChange.{after_retry, routine_born_at, with_bracket_closed, with_routine_entered, error_record, is_gone_after, own_card, own_entry, place_after, routine_named, with_landed, without_routine}
+use Rattle.rtm_model.specs.Advance.{advance}
 use Rattle.rtm_model.specs.Blocks.{has_one_block, with_bracket, without_newest, cut_to, in_newest_bracket, is_block_of, newest_bracket, with_newest_at, with_place, without_bracket}
 use Rattle.rtm_model.specs.Chains.{inherited_estais, is_admitted, is_of_depth, next_estae, next_estai}
-use Rattle.rtm_model.specs.Levels.{Bracket, after_leave, after_setrp, after_verdict, at_enclosing, at_innermost, current, depth_in, is_manager, next_frr, on_record, outermost_alone, record_in, recovers, with_open}
+use Rattle.rtm_model.specs.Levels.{Bracket, after_leave, after_ret15, after_setrp, after_verdict, at_enclosing, at_innermost, current, depth_in, is_manager, next_frr, on_record, outermost_alone, record_in, recovers, with_open}
 use Rattle.rtm_model.specs.NextEntry.{eligible_routine, landed_record}
-use Rattle.rtm_model.specs.Record.{setrp_in, value_or}
-use Rattle.rtm_model.specs.Soundness.{HasOwner, IsCoreSound, IsRoutine, IsSound}
+use Rattle.rtm_model.specs.Record.{ret15_in, setrp_in, value_or}
+use Rattle.rtm_model.specs.inner.Soundness.{HasOwner, IsCoreSound, IsRoutine, IsSound}
 use Rattle.rtm_model.specs.Moments.{IsIn}
 use Rattle.rtm_model.specs.Tasks.{Tree, is_dormant, life_of}
 use Rattle.rtm_model.specs.World.{Core, UnitOfWork, World, born_core, core_at, start, unit_at}
@@ -36,7 +37,6 @@ use Rattle.rtm_law_births.proofs.Errors.{levels_at_start}
 use Rattle.rtm_law_births.proofs.InnerBrackets.{KeepsRoutine, verdict_keeps}
 use Rattle.rtm_law_births.proofs.Lists.{Falls, all_in, falls_in, found_in}
 use Rattle.rtm_law_births.proofs.Living.{IsMade}
-use Rattle.rtm_law_births.proofs.Numbers.{not_equal}
 use Rattle.rtm_law_births.proofs.Outcomes.{IsStarted, outcome_of}
 use Rattle.rtm_law_births.proofs.Routines.{falls}
 
@@ -68,16 +68,16 @@ top_changed f (l ∷ ls) (b ∷ outer) h = h
 level_changed : (f : Bracket → Bracket) → KeepsRoutine f → (ls : List Bracket) (blocks : List (List Block)) → OwnersLive ls blocks → OwnersLive (at_innermost f ls) blocks
 level_changed f keeps [] blocks h = h
 level_changed f keeps (l ∷ ls) [] h = tt
-level_changed f keeps (l ∷ ls) (b ∷ outer) h = (subst (λ (o : Option Reg). OwnerIn o (newest_bracket outer)) (sym (keeps l)) h.0, h.1)
+level_changed f keeps (l ∷ ls) (b ∷ outer) h = (subst (λ (o : Option Reg). OwnerIn o (newest_bracket outer)) (sym (keeps l).0) h.0, h.1)
 
 enclosing_changed : (f : Bracket → Bracket) → KeepsRoutine f → (ls : List Bracket) (blocks : List (List Block)) → OwnersLive ls blocks → OwnersLive (at_enclosing f ls) blocks
 enclosing_changed f keeps [] blocks h = h
 enclosing_changed f keeps (l ∷ ls) [] h = tt
 enclosing_changed f keeps (l ∷ ls) (b ∷ outer) h = (h.0, level_changed f keeps ls outer h.1)
 
-setrp_owners : (s : Setrp) (b : Bool) (ls : List Bracket) (blocks : List (List Block)) → OwnersLive ls blocks → OwnersLive (if b then at_enclosing (on_record (setrp_in s)) ls else ls) blocks
-setrp_owners s true ls blocks h = enclosing_changed (on_record (setrp_in s)) (λ l. refl) ls blocks h
-setrp_owners s false ls blocks h = h
+record_owners : (f : ErrorRecord → ErrorRecord) (b : Bool) (ls : List Bracket) (blocks : List (List Block)) → OwnersLive ls blocks → OwnersLive (if b then at_enclosing (on_record f) ls else ls) blocks
+record_owners f true ls blocks h = enclosing_changed (on_record f) (λ l. (refl, refl)) ls blocks h
+record_owners f false ls blocks h = h
 
 returned_owners : (ls : List Bracket) (blocks : List (List Block)) (b : Bool) → OwnersLive ls blocks → OwnersLive ls (if b then blocks else in_newest_bracket without_newest blocks)
 returned_owners ls blocks true h = h
@@ -87,16 +87,17 @@ card_owners : (n : ℕ) (place : Place) (op : Op) (c : Core) → HasOwners c →
 card_owners n place (ops.Link prog) c h = top_changed _ c.levels (with_place place c.blocks) (top_changed (with_newest_at place) c.levels c.blocks h)
 card_owners n place (ops.Xctl prog) c h = top_changed _ c.levels c.blocks h
 card_owners n place ops.Return c h = returned_owners c.levels c.blocks (has_one_block c.blocks) h
-card_owners n place (ops.SetRp setrp) c h = top_changed (with_newest_at place) (after_setrp setrp c.levels) c.blocks (setrp_owners setrp (recovers c.levels) c.levels c.blocks h)
+card_owners n place (ops.SetRp setrp) c h = top_changed (with_newest_at place) (after_setrp setrp c.levels) c.blocks (record_owners (setrp_in setrp) (recovers c.levels) c.levels c.blocks h)
+card_owners n place (ops.Ret15 rc label) c h = top_changed (with_newest_at place) (after_ret15 rc label c.levels) c.blocks (record_owners (ret15_in rc label) (recovers c.levels) c.levels c.blocks h)
 card_owners n place _ c h = top_changed (with_newest_at place) c.levels c.blocks h
 
 landed_owners : (o : Option Abort) (c : Core) → HasOwners c → HasOwners (with_landed o c)
 landed_owners None c h = h
-landed_owners (Some abort) c h = level_changed (with_open (Some (landed_record abort))) (λ l. refl) c.levels c.blocks h
+landed_owners (Some abort) c h = level_changed (with_open (Some (landed_record abort))) (λ l. (refl, refl)) c.levels c.blocks h
 
-entered_owners : (n : ℕ) (o : Option Reg) (c : Core) → OwnerIn o (newest_bracket c.blocks) → HasOwners c → HasOwners (with_routine_entered n o c)
-entered_owners n None c own h = h
-entered_owners n (Some reg) c own h = (own, h)
+entered_owners : (n : ℕ) (bare : Bool) (o : Option Reg) (c : Core) → OwnerIn o (newest_bracket c.blocks) → HasOwners c → HasOwners (with_routine_entered n bare o c)
+entered_owners n bare None c own h = h
+entered_owners n bare (Some reg) c own h = (own, h)
 
 -- a routine is left
 popped_owners : (verdict : Verdict) (ls : List Bracket) (blocks : List (List Block)) → OwnersLive ls blocks → OwnersLive (after_leave verdict ls) (without_bracket blocks)
@@ -128,10 +129,6 @@ passes : {X : Type 0} (p : X → Bool) (xs : List X) (x : X) → find p xs ≡ S
 passes p [] x e = absurd cc
 passes p (y ∷ ys) x e = passes_if p y ys x (p y) refl e (passes p ys x)
 
-and_left : (a b : Bool) → (a && b) ≡ true → a ≡ true
-and_left true b h = refl
-and_left false b h = absurd cc
-
 -- of the routines that are eligible the ESTAE routine is one of the innermost bracket
 frr_no : (d : DeckView) (n : ℕ) (c : Core) (term : Bool) (reg : Reg) → IsCoreSound d n c → reg.kind ≡ Estae → next_frr (depth_in c.levels) term c.frrs ≡ Some reg → ⊥
 frr_no d n c true reg s kind e = cc
@@ -157,7 +154,7 @@ estae_here d n c r reg s kind e =
     elim (given (next_frr (depth_in c.levels) r.flags.term_only c.frrs) _ reg e) [
       | inl frr ↦ absurd (frr_no d n c r.flags.term_only reg s kind frr)
       | inr more ↦ elim (given (next_estae (depth_in c.levels) r.flags.term_only c.estaes) _ reg more) [
-        | inl found ↦ (found_in test c.estaes reg found, eqb-true reg.depth (depth_in c.levels) (and_left (is_of_depth (depth_in c.levels) reg) (is_admitted r.flags.term_only reg) (passes test c.estaes reg found)))
+        | inl found ↦ (found_in test c.estaes reg found, eqb-true reg.depth (depth_in c.levels) (and_parts (is_of_depth (depth_in c.levels) reg) (is_admitted r.flags.term_only reg) (passes test c.estaes reg found)).0)
         | inr estai ↦ absurd (estai_no d n c r.flags.term_only (depth_in c.levels == 0) reg s kind estai)
       ]
     ]
@@ -222,17 +219,17 @@ module _ (d : DeckView) (w : World) (n u : ℕ) where
   All w2 = (v : ℕ) → HasOwners (core_at v w2)
 
   by_own : (what : What) → IsMade d w n (record { unit = u; what = what }) → HasOwners (core_at u w)
-      → HasOwners (own_entry d n w.managers (first_abort (UnitOfWork.pending (unit_at u w.units))) what (core_at u w))
+      → HasOwners (own_entry d n w.managers (UnitOfWork.pending (unit_at u w.units)) what (core_at u w))
   by_own (whats.Exec at rc) m h = card_owners n (place_after d at rc (op_at d at.prog at.op)) (op_at d at.prog at.op) (core_at u w) h
-  by_own (whats.Error at mark) m h = level_changed (with_open (Some (error_record (Core.doomed (core_at u w)) mark (op_at d at.prog at.op)))) (λ l. refl) (Core.levels (core_at u w)) (Core.blocks (core_at u w)) h
-  by_own (whats.Land class from mark) m h = landed_owners (first_abort (UnitOfWork.pending (unit_at u w.units))) (core_at u w) h
-  by_own (whats.Enter kind reg mark) m h =
+  by_own (whats.Error at mark) m h = level_changed (with_open (Some (error_record (Core.doomed (core_at u w)) mark (op_at d at.prog at.op)))) (λ l. (refl, refl)) (Core.levels (core_at u w)) (Core.blocks (core_at u w)) h
+  by_own (whats.Land class from mark) m h = landed_owners (abort_named class from (UnitOfWork.pending (unit_at u w.units))) (core_at u w) h
+  by_own (whats.Enter kind reg mark bare) m h =
       let c : Core = core_at u w in
-      entered_owners n (routine_named kind reg w.managers c) c
+      entered_owners n bare (routine_named kind reg w.managers c) c
       (owner_if (routine_named kind reg w.managers c) (newest_bracket c.blocks)
       (λ routine e is.
       let same = some_kind (routine_named kind reg w.managers c) kind (λ r. (r.born ≡ reg) × CanEnter c (is_manager kind) r.prog (length d.programs)) (enter_facts (routine_named kind reg w.managers c) kind reg c (length d.programs) m.can.what.0) routine e in
-      started d n c kind reg routine (IsSound.cores m.sound u) (outcome_of d w u (whats.Enter kind reg mark) m.may) (sym same ∙ is) (named_kind d n w kind reg c routine e same is))) h
+      started d n c kind reg routine (IsSound.cores m.sound u) (outcome_of d w u (whats.Enter kind reg mark bare) m.may) (sym same ∙ is) (named_kind d n w kind reg c routine e same is))) h
   by_own (whats.Leave kind reg verdict logrec dump) m h =
       let c : Core = core_at u w in
       retried_owners verdict (current c.levels) (without_routine verdict (is_gone_after verdict (record_in c.levels)) kind reg (with_bracket_closed verdict c)) (popped_owners verdict c.levels c.blocks h)
@@ -259,7 +256,7 @@ module _ (d : DeckView) (w : World) (n u : ℕ) where
 
   entry_if : (what : What) → IsMade d w n (record { unit = u; what = what }) → All w → (v : ℕ) (b : Bool) → (v == u) ≡ b → HasOwners (core_at v (advance d w n (record { unit = u; what = what })))
   entry_if what m h v true e = let same = eqb-true v u e in subst HasOwners (sym (core_here d w n u v what m same)) (by_own what m (h u))
-  entry_if what m h v false e = by_other v what m _ (core_there d w n u v what m (not_equal v u e)) (h v)
+  entry_if what m h v false e = by_other v what m _ (core_there d w n u v what m (eqb-false v u e)) (h v)
 
   pub entry_owners : (what : What) → IsMade d w n (record { unit = u; what = what }) → All w → All (advance d w n (record { unit = u; what = what }))
   entry_owners what m h v = entry_if what m h v (v == u) refl

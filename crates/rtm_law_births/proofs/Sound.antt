@@ -5,10 +5,10 @@ use Rattle.std.specs.Prelude.{IsTrue, take}
 use Rattle.rtm_deck_items.specs.View.{DeckView}
 use Rattle.rtm_deck_items.specs.WellFormed.{is_well_formed}
 use Rattle.rtm_model.specs.declared.entry.Entry.{Entry}
-use Rattle.rtm_model.specs.Applies.{CanApply}
+use Rattle.rtm_model.specs.inner.Applies.{CanApply}
 use Rattle.rtm_model.specs.Legal.{Legal}
 use Rattle.rtm_model.specs.Moments.{IsAt, before}
-use Rattle.rtm_model.specs.Soundness.{IsSound}
+use Rattle.rtm_model.specs.inner.Soundness.{IsSound}
 use Rattle.rtm_law_sound.proofs.Histories.{each_applies, prefix_legal, world_sound}
 
 -- the deck is well formed, each world on the way is sound, and each entry can be applied to the world before it

@@ -6,7 +6,7 @@ use Rattle.std.specs.Prelude.{IsTrue, nat_le, slice_get}
 use Rattle.rtm_deck_items.specs.View.{DeckView}
 use Rattle.rtm_deck_items.specs.WellFormed.{is_well_formed}
 use Rattle.rtm_model.specs.declared.entry.Entry.{Entry}
-use Rattle.rtm_model.specs.Births.{advance}
+use Rattle.rtm_model.specs.Advance.{advance}
 use Rattle.rtm_model.specs.Legal.{Legal}
 use Rattle.rtm_model.specs.Moments.{IsAt, before}
 use Rattle.rtm_model.specs.World.{World, start}

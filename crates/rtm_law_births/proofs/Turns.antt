@@ -1,6 +1,6 @@
 -- Pending aborts stand in the order in which they were posted.
 use Rattle.std.proofs.Common.{◌≡◌, ℕ, ◌<◌, ◌≤◌, ◌+◌, Bool, true, false, not, ◌&&◌, ◌||◌, List, [], ◌∷◌, ◌++◌, length, Option, Some, None, refl, sym, ap, subst, arith, inl, inr, ◌∙◌}
-use Rattle.std.proofs.lemmas.Bool.{eqb-true}
+use Rattle.std.proofs.lemmas.Bool.{eqb-false, eqb-true}
 use Rattle.std.proofs.lemmas.List.{length-set}
 use Rattle.std.specs.List.{AllByRecursion}
 use Rattle.std.specs.Prelude.{if◌then◌else◌, is_some, slice_get, ◌==◌}
@@ -16,20 +16,26 @@ use Rattle.rtm_model.specs.declared.entry.What.TheVariants as whats
 use Rattle.rtm_model.specs.declared.error_record.ErrorRecord.{ErrorRecord}
 use Rattle.rtm_model.specs.declared.reg.Reg.{Reg}
 use Rattle.rtm_model.specs.Aborts.{after_landing, has_class}
-use Rattle.rtm_model.specs.Births.{abterm_abort, advance, after_arrival, beyond_card, cancel_abort, cause_of, detach_abort, mother_abort, own_change, post_related, post_step, post_to, purged_core, srb_abort, step_abort, with_posted, with_unit, without_living}
+use Rattle.rtm_model.specs.Posts.{abterm_abort, cancel_abort, detach_abort, mother_abort, post_related, post_step, post_to, srb_abort, step_abort, with_posted}
+use Rattle.rtm_model.specs.OwnChange.{own_change}
+use Rattle.rtm_model.specs.Advance.{advance, after_arrival, beyond_card, cause_of, purged_core, with_unit, without_living}
 use Rattle.rtm_model.specs.Legal.{Legal}
 use Rattle.rtm_model.specs.Surroundings.{is_late}
-use Rattle.rtm_model.specs.Soundness.{ArePending, IsAbort, IsSound}
+use Rattle.rtm_model.specs.inner.Soundness.{ArePending, IsAbort, IsSound}
 use Rattle.rtm_model.specs.Tasks.{Tree, ended_life, is_subtask_of, life_of}
 use Rattle.rtm_model.specs.World.{Core, UnitOfWork, World, at_birth, core_at, on_unit, related_task, unit_at}
+use Rattle.rtm_model.specs.Blocks.{without_newest}
+use Rattle.rtm_model.specs.NextEntry.{landed_record}
+use Rattle.rtm_model.specs.Record.{mark_of}
+use Rattle.rtm_model.specs.declared.entry.Class.{Class}
+use Rattle.rtm_model.proofs.Landing.{IsFirst, behind_first}
+use Rattle.rtm_model.proofs.Units.{length-on_unit, unit_here, unit_same, unit_there}
 use Rattle.rtm_law_births.specs.Aborts.{AreTheAborts, ComeInTurn, ComesBefore, aborts}
 use Rattle.rtm_law_births.proofs.Sound.{IsSoundHistory}
 use Rattle.rtm_law_births.proofs.AbortEntries.{follows, none_at_start}
 use Rattle.rtm_law_births.proofs.Beyond.{own, with_units}
 use Rattle.rtm_law_births.proofs.Living.{IsMade, kept_after, living}
-use Rattle.rtm_law_births.proofs.Numbers.{not_equal}
 use Rattle.rtm_law_births.proofs.Posts.{grows, mothered_at, pending_of, turn_posted}
-use Rattle.rtm_law_births.proofs.Units.{length_units, unit_here, unit_same, unit_there}
 
 -- each unit's list, in turn; and each abort of it before that one
 abbrev Turns : List UnitOfWork → Type 0
@@ -60,14 +66,17 @@ turn_unit_if : (u v : ℕ) (f : UnitOfWork → UnitOfWork) (units : List UnitOfW
 turn_unit_if u v f units within turns now true e =
     let same = eqb-true v u e in
     subst (λ (i : ℕ). ComeInTurn (pending_of i (on_unit u f units))) (sym same) (subst ComeInTurn (sym (ap UnitOfWork.pending (unit_here u f units within))) now)
-turn_unit_if u v f units within turns now false e = subst ComeInTurn (sym (ap UnitOfWork.pending (unit_there u v f units (not_equal v u e)))) (turns v)
+turn_unit_if u v f units within turns now false e = subst ComeInTurn (sym (ap UnitOfWork.pending (unit_there u v f units (eqb-false v u e)))) (turns v)
 
 turn_unit : (u : ℕ) (f : UnitOfWork → UnitOfWork) (units : List UnitOfWork) → u < length units → Turns units → ComeInTurn (UnitOfWork.pending (f (unit_at u units))) → Turns (on_unit u f units)
 turn_unit u f units within turns now v = turn_unit_if u v f units within turns now (v == u) refl
 
-landed_turn : (p : List Abort) → ComeInTurn p → ComeInTurn (after_landing p)
-landed_turn [] h = tt
-landed_turn (a ∷ later) h = h.1
+behind_turn : (p : List Abort) → ComeInTurn p → ComeInTurn (without_newest p)
+behind_turn [] h = tt
+behind_turn (a ∷ later) h = h.1
+
+landed_turn : (class : Class) (from : ℕ) (M : Abort → Type 0) (p : List Abort) → IsFirst class from M p → ComeInTurn p → ComeInTurn (after_landing class from p)
+landed_turn class from M p can h = subst ComeInTurn (sym (behind_first class from M p can)) (behind_turn p h)
 
 -- cards
 module _ (d : DeckView) (n u rc : ℕ) (w : World) (units : List UnitOfWork) (lens : length (Tree.lives w.tree) ≤ length units)
@@ -128,7 +137,7 @@ module _ (d : DeckView) (n u rc : ℕ) (w : World) (units : List UnitOfWork) (le
     lens2 : (rel : Option ℕ) (cause : Option ErrorRecord) → length (Tree.lives (World.tree (post_related n rel cause w1))) ≤ length (World.units (post_related n rel cause w1))
     lens2 None cause = lens1
     lens2 (Some task) None = lens1
-    lens2 (Some task) (Some r) = omega (arith, lens1, length_units task (with_posted (is_late w1 task) (srb_abort n r)) w1.units)
+    lens2 (Some task) (Some r) = omega (arith, lens1, length-on_unit task (with_posted (is_late w1 task) (srb_abort n r)) w1.units)
 
     ended_turn : (is_other : Bool) (rel : Option ℕ) (cause : Option ErrorRecord) → Turns (World.units (post_step n is_other (job_step d) cause (post_related n rel cause w1)))
     ended_turn is_other rel None = related_turn rel None
@@ -144,11 +153,11 @@ before_unit_if a u v f units within before none true e =
     let same = eqb-true v u e in
     subst (λ (i : ℕ). AllByRecursion (λ b. ComesBefore b a) (pending_of i (on_unit u f units))) (sym same)
     (subst (AllByRecursion (λ b. ComesBefore b a)) (sym (ap UnitOfWork.pending (unit_here u f units within) ∙ none)) tt)
-before_unit_if a u v f units within before none false e = subst (AllByRecursion (λ b. ComesBefore b a)) (sym (ap UnitOfWork.pending (unit_there u v f units (not_equal v u e)))) (before v)
+before_unit_if a u v f units within before none false e = subst (AllByRecursion (λ b. ComesBefore b a)) (sym (ap UnitOfWork.pending (unit_there u v f units (eqb-false v u e)))) (before v)
 
 module _ (d : DeckView) (w : World) (n u : ℕ) (turns : Turns w.units) where
   few : IsSound d n w → (f : UnitOfWork → UnitOfWork) → length (Tree.lives w.tree) ≤ length (on_unit u f w.units)
-  few s f = omega (arith, s.units_len, s.lives_len, length_units u f w.units)
+  few s f = omega (arith, s.units_len, s.lives_len, length-on_unit u f w.units)
 
   inside : IsSound d n w → u ≤ length d.units → u < length w.units
   inside s h = omega (arith, s.units_len, h)
@@ -160,11 +169,8 @@ module _ (d : DeckView) (w : World) (n u : ℕ) (turns : Turns w.units) where
   entry_turn (whats.Exec at rc) m =
       card_turn d n u rc w (World.units (own d w n u (whats.Exec at rc))) (few m.sound (own_change d n w.managers (whats.Exec at rc)))
       (still (whats.Exec at rc) (λ unit. refl)) (IsSound.pending m.sound) turns (op_at d at.prog at.op)
-  entry_turn (whats.Error at mark) m = turn_same w.units _ (still (whats.Error at mark) (λ unit. refl)) turns
   entry_turn (whats.Land class from mark) m =
-      turn_unit u (own_change d n w.managers (whats.Land class from mark)) w.units (inside m.sound m.can.unit) turns (landed_turn (pending_of u w.units) (turns u))
-  entry_turn (whats.Enter kind reg mark) m = turn_same w.units _ (still (whats.Enter kind reg mark) (λ unit. refl)) turns
-  entry_turn (whats.Leave kind reg verdict logrec dump) m = turn_same w.units _ (still (whats.Leave kind reg verdict logrec dump) (λ unit. refl)) turns
+      turn_unit u (own_change d n w.managers (whats.Land class from mark)) w.units (inside m.sound m.can.unit) turns (landed_turn class from (λ first. mark ≡ mark_of (landed_record first)) (pending_of u w.units) m.can.what.2 (turns u))
   entry_turn (whats.Arrive cmd became) m =
       command_turn d n u 0 w (World.units (own d w n u (whats.Arrive cmd became))) (few m.sound (own_change d n w.managers (whats.Arrive cmd became)))
       (still (whats.Arrive cmd became) (λ unit. refl)) (IsSound.pending m.sound) turns (slice_get d.commands cmd)
@@ -177,7 +183,6 @@ module _ (d : DeckView) (w : World) (n u : ℕ) (turns : Turns w.units) where
       before_unit_if (mother_abort n) u v change w.units within (λ i. earlier n (mother_abort n) refl (pending_of i w.units) (ArePending.each (IsSound.pending m.sound i))) refl (v == u) refl in
       subst ComeInTurn (sym (ap UnitOfWork.pending (mothered_at u (mother_abort n) (Tree.lives w.tree) units (few m.sound change) v)))
       (mothered_turn n u (unit_at v units) (own_turns v) before (is_subtask_of u (life_of v (Tree.lives w.tree))))
-  entry_turn (whats.Release class id owner) m = turn_same w.units _ (still (whats.Release class id owner) (λ unit. refl)) turns
   entry_turn (whats.Done code to_task to_step) m =
       let what = whats.Done code to_task to_step in
       let w1 : World = without_living u code (u == job_step d) (own d w n u what) in
@@ -187,9 +192,9 @@ module _ (d : DeckView) (w : World) (n u : ℕ) (turns : Turns w.units) where
       (not (u == job_step d)) (related_task d u) cause
   entry_turn (whats.Purge unit) m =
       let change = own_change d n w.managers (whats.Purge unit) in
-      let there : unit < length (on_unit u change w.units) = omega (arith, m.can.what.0, IsSound.units_len m.sound, length_units u change w.units) in
+      let there : unit < length (on_unit u change w.units) = omega (arith, m.can.what.0, IsSound.units_len m.sound, length-on_unit u change w.units) in
       turn_unit unit (λ unit. record unit { core = purged_core unit.core; pending = [] }) (on_unit u change w.units) there (turn_same w.units _ (still (whats.Purge unit) (λ unit. refl)) turns) tt
-  entry_turn whats.MemEnd m = turn_same w.units _ (still whats.MemEnd (λ unit. refl)) turns
+  entry_turn what m = turn_same w.units _ (still what (λ unit. refl)) turns
 
 -- each unit's list of pending aborts has those that live, in the order in which they were posted
 pub aborts_live : (d : DeckView) (h : List Entry) → IsSoundHistory d h → Legal d h → AreTheAborts d h

@@ -14,7 +14,8 @@ use Rattle.rtm_model.specs.declared.entry.What.{What}
 use Rattle.rtm_model.specs.declared.entry.What.TheVariants.{Arrive, Begin, Done, Exec}
 use Rattle.rtm_model.specs.declared.error_record.ErrorRecord.{ErrorRecord}
 use Rattle.rtm_model.specs.Entries.{EndsAbort}
-use Rattle.rtm_model.specs.Births.{abterm_abort, cancel_abort, cause_of, detach_abort, mother_abort, srb_abort, step_abort, world}
+use Rattle.rtm_model.specs.Posts.{abterm_abort, cancel_abort, detach_abort, mother_abort, srb_abort, step_abort}
+use Rattle.rtm_model.specs.Advance.{cause_of, world}
 use Rattle.rtm_model.specs.Moments.{IsIn}
 use Rattle.rtm_model.specs.Surroundings.{fate_in}
 use Rattle.rtm_model.specs.Tasks.{Tree, is_subtask_of, life_of}

@@ -10,11 +10,12 @@ use Rattle.rtm_model.specs.declared.entry.What.{What}
 use Rattle.rtm_model.specs.declared.entry.What.TheVariants.{Exec, Leave}
 use Rattle.rtm_model.specs.declared.reg.Kind.TheVariants.{Estae}
 use Rattle.rtm_model.specs.declared.reg.Reg.{Reg}
-use Rattle.rtm_model.specs.Births.{new_estae, world}
+use Rattle.rtm_model.specs.Births.{new_estae}
+use Rattle.rtm_model.specs.Advance.{world}
 use Rattle.rtm_model.specs.Cards.{newest_owned_here}
 use Rattle.rtm_model.specs.Levels.{depth_in}
 use Rattle.rtm_model.specs.Moments.{IsIn}
-use Rattle.rtm_model.specs.Soundness.{RoutinesFall}
+use Rattle.rtm_model.specs.inner.Soundness.{RoutinesFall}
 use Rattle.rtm_model.specs.World.{Core, core_at}
 use Rattle.rtm_law_births.specs.Life.{HasTheLiving, Table}
 use Rattle.rtm_law_births.specs.RequestBlocks.{EntryKills as BlockDies, IsRunning}
@@ -54,11 +55,14 @@ estaes = record {
   has = λ w x. IsIn x.reg (Core.estaes (core_at x.unit w));
   starts = λ d x. ⊥;
   makes = λ d w n e x. (x.unit ≡ e.unit) × EntryMakes d n (core_at e.unit w) e.what x.reg;
-  kills = λ d w n e x. ((x.unit ≡ e.unit) × (EntryKills d (core_at e.unit w) e.what x.reg ⊎ OwnerDies d (core_at e.unit w) e.what x.reg))
+  kills = λ d w n e x.
+      ((x.unit ≡ e.unit) × (EntryKills d (core_at e.unit w) e.what x.reg ⊎ OwnerDies d (core_at e.unit w) e.what x.reg))
       ⊎ IsPurgeOf x.unit e.what;
 }
 
 -- each unit's list of ESTAE routines has those that live, newest first
 pub record AreTheEstaes (d : DeckView) (history : List Entry) : Type 0 where
   pub living : HasTheLiving estaes d history
-  pub order : (u : ℕ) → RoutinesFall (length history) (depth_in (Core.levels (core_at u (world d history)))) (Core.estaes (core_at u (world d history)))
+  pub order : (u : ℕ)
+      → RoutinesFall (length history) (depth_in (Core.levels (core_at u (world d history))))
+      (Core.estaes (core_at u (world d history)))

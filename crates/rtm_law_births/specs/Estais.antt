@@ -10,9 +10,10 @@ use Rattle.rtm_model.specs.declared.entry.What.{What}
 use Rattle.rtm_model.specs.declared.entry.What.TheVariants.{Begin, Exec, Leave}
 use Rattle.rtm_model.specs.declared.reg.Kind.TheVariants.{Estai}
 use Rattle.rtm_model.specs.declared.reg.Reg.{Reg}
-use Rattle.rtm_model.specs.Births.{new_estai, world}
+use Rattle.rtm_model.specs.Births.{new_estai}
+use Rattle.rtm_model.specs.Advance.{world}
 use Rattle.rtm_model.specs.Moments.{IsIn}
-use Rattle.rtm_model.specs.Soundness.{RoutinesFall}
+use Rattle.rtm_model.specs.inner.Soundness.{RoutinesFall}
 use Rattle.rtm_model.specs.World.{Core, core_at}
 use Rattle.rtm_law_births.specs.Life.{HasTheLiving, Table}
 use Rattle.rtm_law_births.specs.Routines.{IsItsLeave, UnitRoutine}

@@ -10,11 +10,12 @@ use Rattle.rtm_model.specs.declared.entry.What.{What}
 use Rattle.rtm_model.specs.declared.entry.What.TheVariants.{Begin, Exec, Leave}
 use Rattle.rtm_model.specs.declared.reg.Kind.TheVariants.{Frr}
 use Rattle.rtm_model.specs.declared.reg.Reg.{Reg}
-use Rattle.rtm_model.specs.Births.{new_frr, world}
+use Rattle.rtm_model.specs.Births.{new_frr}
+use Rattle.rtm_model.specs.Advance.{world}
 use Rattle.rtm_model.specs.Cards.{frr_here}
 use Rattle.rtm_model.specs.Levels.{depth_in}
 use Rattle.rtm_model.specs.Moments.{IsIn}
-use Rattle.rtm_model.specs.Soundness.{RoutinesFall}
+use Rattle.rtm_model.specs.inner.Soundness.{RoutinesFall}
 use Rattle.rtm_model.specs.World.{Core, core_at}
 use Rattle.rtm_law_births.specs.Life.{HasTheLiving, Table}
 use Rattle.rtm_law_births.specs.Routines.{IsItsLeave, UnitRoutine}
@@ -56,4 +57,6 @@ frrs = record {
 -- each unit's list of FRRs has those that live, newest first
 pub record AreTheFrrs (d : DeckView) (history : List Entry) : Type 0 where
   pub living : HasTheLiving frrs d history
-  pub order : (u : ℕ) → RoutinesFall (length history) (depth_in (Core.levels (core_at u (world d history)))) (Core.frrs (core_at u (world d history)))
+  pub order : (u : ℕ)
+      → RoutinesFall (length history) (depth_in (Core.levels (core_at u (world d history))))
+      (Core.frrs (core_at u (world d history)))

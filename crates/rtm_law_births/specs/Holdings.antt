@@ -9,10 +9,10 @@ use Rattle.rtm_model.specs.declared.entry.Entry.{Entry}
 use Rattle.rtm_model.specs.declared.entry.What.{What}
 use Rattle.rtm_model.specs.declared.entry.What.TheVariants.{Exec, Release}
 use Rattle.rtm_model.specs.declared.holding.Holding.{Holding}
-use Rattle.rtm_model.specs.Births.{world}
+use Rattle.rtm_model.specs.Advance.{world}
 use Rattle.rtm_model.specs.Ending.{holdings_of, newest_equal, of_class}
 use Rattle.rtm_model.specs.Moments.{IsHeld}
-use Rattle.rtm_model.specs.Soundness.{HoldingsFall}
+use Rattle.rtm_model.specs.inner.Soundness.{HoldingsFall}
 use Rattle.rtm_model.specs.World.{World}
 use Rattle.rtm_law_births.specs.Life.{HasTheLiving, Table}
 
@@ -47,4 +47,5 @@ holdings = record {
 -- each owner's list of a class has those that live, newest first
 pub record AreTheHoldings (d : DeckView) (history : List Entry) : Type 0 where
   pub living : HasTheLiving holdings d history
-  pub order : (owner : ℕ) (class : Res) → HoldingsFall (length history) (of_class class (holdings_of owner (World.holdings (world d history))))
+  pub order : (owner : ℕ) (class : Res)
+      → HoldingsFall (length history) (of_class class (holdings_of owner (World.holdings (world d history))))

@@ -3,7 +3,7 @@
 use Rattle.std.specs.Prelude.{List, None, Option, Some, if◌then◌else◌, length, nat_le, slice_get, suc, zero, ℕ, ◌+◌, ◌<◌, ◌≡◌, ◌≤◌, ◌⊎◌}
 use Rattle.rtm_deck_items.specs.View.{DeckView}
 use Rattle.rtm_model.specs.declared.entry.Entry.{Entry}
-use Rattle.rtm_model.specs.Births.{world}
+use Rattle.rtm_model.specs.Advance.{world}
 use Rattle.rtm_model.specs.Moments.{IsAt, before}
 use Rattle.rtm_model.specs.World.{World}
 
@@ -16,12 +16,14 @@ pub record Table (X : Type 0) : Type 1 where
   pub kills : DeckView → World → ℕ → Entry → X → Type 0
 
 -- none of the entries from the index i on, below the index k, is a death of the thing
-abbrev pub Survives : {X : Type 0} → (DeckView → World → ℕ → Entry → X → Type 0) → DeckView → List Entry → ℕ → ℕ → X → Type 0
+abbrev pub Survives : {X : Type 0}
+    → (DeckView → World → ℕ → Entry → X → Type 0) → DeckView → List Entry → ℕ → ℕ → X → Type 0
 Survives kills d history i k x =
     (j : ℕ) (e : Entry) → i ≤ j → j < k → IsAt history j e → kills d (before d history j) j e x → ⊥
 
 -- the entry of index i, below the index k, makes the thing, and no later one is a death of it
-pub record LivesSince {X : Type 0} (table : Table X) (d : DeckView) (history : List Entry) (k : ℕ) (x : X) (i : ℕ) : Type 0 where
+pub record LivesSince {X : Type 0} (table : Table X) (d : DeckView) (history : List Entry) (k : ℕ) (x : X) (i : ℕ)
+    : Type 0 where
   pub below : i < k
   pub entry : Entry
   pub at : IsAt history i entry
@@ -57,17 +59,21 @@ state_after table d history x k (Some e) s = table.changes d (before d history k
 abbrev pub state_before : {X S : Type 0} → StateTable X S → DeckView → List Entry → X → ℕ → S → ℕ → S
 state_before table d history x i s zero = s
 state_before table d history x i s (suc k) =
-    if nat_le i k then state_after table d history x k (slice_get history k) (state_before table d history x i s k) else s
+    if nat_le i k
+    then state_after table d history x k (slice_get history k) (state_before table d history x i s k)
+    else s
 
 -- the thing lives from the start, and has come to the state before the entry of index k
-pub record StatedFromStart {X S : Type 0} (table : StateTable X S) (d : DeckView) (history : List Entry) (k : ℕ) (x : X) (s : S) : Type 0 where
+pub record StatedFromStart {X S : Type 0} (table : StateTable X S) (d : DeckView) (history : List Entry)
+    (k : ℕ) (x : X) (s : S) : Type 0 where
   pub first : S
   pub starts : table.starts d x first
   pub survives : Survives table.kills d history 0 k x
   pub state : s ≡ state_before table d history x 0 first k
 
 -- the entry of index i, below the index k, makes it, and so on
-pub record StatedSince {X S : Type 0} (table : StateTable X S) (d : DeckView) (history : List Entry) (k : ℕ) (x : X) (s : S) (i : ℕ) : Type 0 where
+pub record StatedSince {X S : Type 0} (table : StateTable X S) (d : DeckView) (history : List Entry)
+    (k : ℕ) (x : X) (s : S) (i : ℕ) : Type 0 where
   pub below : i < k
   pub entry : Entry
   pub at : IsAt history i entry

@@ -10,11 +10,11 @@ use Rattle.rtm_model.specs.declared.entry.What.{What}
 use Rattle.rtm_model.specs.declared.entry.What.TheVariants.{Exec, Leave, Purge}
 use Rattle.rtm_model.specs.declared.holding.Manager1.{Manager1}
 use Rattle.rtm_model.specs.declared.reg.Kind.TheVariants.{Mgr}
-use Rattle.rtm_model.specs.Births.{world}
+use Rattle.rtm_model.specs.Advance.{world}
 use Rattle.rtm_model.specs.Ending.{newest_manager}
 use Rattle.rtm_model.specs.Moments.{IsIn}
 use Rattle.rtm_model.specs.Surroundings.{manager_task}
-use Rattle.rtm_model.specs.Soundness.{ManagersFall}
+use Rattle.rtm_model.specs.inner.Soundness.{ManagersFall}
 use Rattle.rtm_model.specs.World.{World}
 use Rattle.rtm_law_births.specs.Life.{HasTheLiving, Table}
 

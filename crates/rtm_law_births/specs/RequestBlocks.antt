@@ -15,12 +15,14 @@ use Rattle.rtm_model.specs.declared.entry.What.{What}
 use Rattle.rtm_model.specs.declared.entry.What.TheVariants.{Begin, Enter, Exec, Leave}
 use Rattle.rtm_model.specs.declared.holding.Manager1.{Manager1}
 use Rattle.rtm_model.specs.declared.reg.Reg.{Reg}
-use Rattle.rtm_model.specs.Births.{block_birth, place_after, routine_named, world}
+use Rattle.rtm_model.specs.Births.{block_birth}
+use Rattle.rtm_model.specs.OwnChange.{place_after, routine_named}
+use Rattle.rtm_model.specs.Advance.{world}
 use Rattle.rtm_model.specs.Blocks.{first_place, newest_birth, without_bracket}
 use Rattle.rtm_model.specs.Levels.{current, depth_in}
 use Rattle.rtm_model.specs.Moments.{IsIn}
 use Rattle.rtm_model.specs.NextEntry.{retry_birth}
-use Rattle.rtm_model.specs.Soundness.{BracketsFall}
+use Rattle.rtm_model.specs.inner.Soundness.{BracketsFall}
 use Rattle.rtm_model.specs.World.{Core, core_at}
 use Rattle.rtm_law_births.specs.Life.{HasTheStated, StateTable}
 use Rattle.rtm_law_births.specs.Units.{IsPurgeOf}
@@ -35,7 +37,8 @@ pub record UnitBlock : Type 0 where
 -- the request block is one of the bracket of that depth, of so many brackets
 abbrev pub IsBlockAt : ℕ → ℕ → Block → List (List Block) → Type 0
 IsBlockAt count depth block [] = ⊥
-IsBlockAt count depth block (blocks ∷ outer) = ((depth + 1 ≡ count) × IsIn block blocks) ⊎ IsBlockAt (count - 1) depth block outer
+IsBlockAt count depth block (blocks ∷ outer) =
+    ((depth + 1 ≡ count) × IsIn block blocks) ⊎ IsBlockAt (count - 1) depth block outer
 
 -- LINK makes one in the innermost bracket
 abbrev pub CardMakes : ℕ → Core → ℕ → Op → ℕ → ℕ → Place → Type 0
@@ -50,7 +53,7 @@ IsFirstOf (Some routine) place = place ≡ first_place routine.prog
 
 abbrev pub EntryMakes : DeckView → ℕ → Core → List Manager1 → What → ℕ → ℕ → Place → Type 0
 EntryMakes d n c managers (Exec at rc) depth born place = CardMakes n c rc (op_at d at.prog at.op) depth born place
-EntryMakes d n c managers (Enter kind routine mark) depth born place =
+EntryMakes d n c managers (Enter kind routine mark bare) depth born place =
     (depth ≡ length c.levels) × (born ≡ block_birth n) × IsFirstOf (routine_named kind routine managers c) place
 EntryMakes d n c managers _ depth born place = ⊥
 
@@ -94,7 +97,8 @@ VerdictKills c _ depth born = ⊥
 -- and the unit's BEGIN; and its PURGE
 abbrev pub EntryKills : DeckView → Core → What → ℕ → ℕ → Type 0
 EntryKills d c (Exec at rc) depth born = CardKills c (op_at d at.prog at.op) depth born
-EntryKills d c (Leave kind routine verdict logrec dump) depth born = (depth ≡ depth_in c.levels) ⊎ VerdictKills c verdict depth born
+EntryKills d c (Leave kind routine verdict logrec dump) depth born =
+    (depth ≡ depth_in c.levels) ⊎ VerdictKills c verdict depth born
 EntryKills d c (Begin code dump) depth born = Unit {0}
 EntryKills d c _ depth born = ⊥
 
@@ -118,15 +122,21 @@ entry_moves d c _ depth born place = place
 
 abbrev pub blocks : StateTable UnitBlock Place
 blocks = record {
-  has = λ w x place. IsBlockAt (length (Core.levels (core_at x.unit w))) x.depth (record { born = x.born; place = place }) (Core.blocks (core_at x.unit w));
+  has = λ w x place.
+      IsBlockAt (length (Core.levels (core_at x.unit w))) x.depth (record { born = x.born; place = place })
+      (Core.blocks (core_at x.unit w));
   starts = λ d x place. IsFirstBlock d (job_step d) 0 x place;
-  makes = λ d w n e x place. ((x.unit ≡ e.unit) × EntryMakes d n (core_at e.unit w) w.managers e.what x.depth x.born place) ⊎ UnitMakes d n e.what x place;
-  kills = λ d w n e x. ((x.unit ≡ e.unit) × EntryKills d (core_at e.unit w) e.what x.depth x.born) ⊎ IsPurgeOf x.unit e.what;
-  changes = λ d w n e x place. if x.unit == e.unit then entry_moves d (core_at e.unit w) e.what x.depth x.born place else place;
+  makes = λ d w n e x place.
+      ((x.unit ≡ e.unit) × EntryMakes d n (core_at e.unit w) w.managers e.what x.depth x.born place)
+      ⊎ UnitMakes d n e.what x place;
+  kills = λ d w n e x.
+      ((x.unit ≡ e.unit) × EntryKills d (core_at e.unit w) e.what x.depth x.born) ⊎ IsPurgeOf x.unit e.what;
+  changes = λ d w n e x place.
+      if x.unit == e.unit then entry_moves d (core_at e.unit w) e.what x.depth x.born place else place;
 }
 
--- each bracket's request blocks are those that live, each at its place, newest first; and all are newer than those of the
--- brackets around it
+-- each bracket's request blocks are those that live, each at its place, newest first; and all are newer than those of
+-- the brackets around it
 pub record AreTheBlocks (d : DeckView) (history : List Entry) : Type 0 where
   pub living : HasTheStated blocks d history
   pub order : (u : ℕ) → BracketsFall (length history + 1) (Core.blocks (core_at u (world d history)))

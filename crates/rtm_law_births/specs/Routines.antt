@@ -6,7 +6,7 @@ use Rattle.rtm_model.specs.declared.entry.Verdict.TheVariants.{Bad, Fail, Perc, 
 use Rattle.rtm_model.specs.declared.error_record.ErrorRecord.{ErrorRecord}
 use Rattle.rtm_model.specs.declared.reg.Kind.{Kind}
 use Rattle.rtm_model.specs.declared.reg.Reg.{Reg}
-use Rattle.rtm_model.specs.Births.{has_remrec}
+use Rattle.rtm_model.specs.OwnChange.{has_remrec}
 use Rattle.rtm_model.specs.Levels.{record_in}
 use Rattle.rtm_model.specs.World.{Core}
 

@@ -4,11 +4,11 @@ use Rattle.std.specs.Prelude.{IsTrue, slice_get}
 use Rattle.rtm_deck_items.specs.View.{DeckView}
 use Rattle.rtm_deck_items.specs.WellFormed.{is_well_formed}
 use Rattle.rtm_model.specs.declared.entry.Entry.{Entry}
-use Rattle.rtm_model.specs.Applies.{CanApply}
-use Rattle.rtm_model.specs.Births.{advance, world, world_from}
+use Rattle.rtm_model.specs.inner.Applies.{CanApply}
+use Rattle.rtm_model.specs.Advance.{advance, world, world_from}
 use Rattle.rtm_model.specs.Legal.{Legal, LegalFrom, MayFollow}
 use Rattle.rtm_model.specs.Moments.{IsAt, before}
-use Rattle.rtm_model.specs.Soundness.{IsCoreSound, IsSound}
+use Rattle.rtm_model.specs.inner.Soundness.{IsCoreSound, IsSound}
 use Rattle.rtm_model.specs.World.{World, core_at, start}
 use Rattle.rtm_law_sound_region.proofs.Acts.{region_follows}
 use Rattle.rtm_law_sound_region.proofs.Region.{RegionIsSound}

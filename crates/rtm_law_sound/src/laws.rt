@@ -7,14 +7,14 @@ ghost use Rattle.rtm_deck_items.specs.View.{DeckView};
 ghost use Rattle.rtm_deck_items.specs.WellFormed.{is_well_formed};
 ghost use Rattle.rtm_model.specs.declared.entry.Entry.{Entry};
 ghost use Rattle.rtm_model.specs.declared.entry.What.{What};
-ghost use Rattle.rtm_model.specs.Applies.{CanApply};
+ghost use Rattle.rtm_model.specs.inner.Applies.{CanApply};
 ghost use Rattle.rtm_model.specs.Arrivals.{arrival};
-ghost use Rattle.rtm_model.specs.Births.{world};
+ghost use Rattle.rtm_model.specs.Advance.{world};
 ghost use Rattle.rtm_model.specs.Fits.{Fits};
 ghost use Rattle.rtm_model.specs.Legal.{Legal, MayFollow};
 ghost use Rattle.rtm_model.specs.Moments.{IsAt, before};
 ghost use Rattle.rtm_model.specs.NextEntry.{next};
-ghost use Rattle.rtm_model.specs.Soundness.{IsSound};
+ghost use Rattle.rtm_model.specs.inner.Soundness.{IsSound};
 ghost use Rattle.rtm_model.specs.Turns.{entry_of};
 
 /// After every legal history the world is sound: its counts are within their limits, its brackets stand in one another,
@@ -41,7 +41,8 @@ pub fn each_entry_was_applied()
 
 /// Every prefix of a legal history is legal.
 pub fn prefixes_are_legal()
-    ensures { (d : DeckView) (history : List Entry) (i : ℕ) → Legal d history → Legal d (take i history) }
+    ensures { (d : DeckView) (history : List Entry) (i : ℕ) → Legal d history
+        → Legal d (take i history) }
 {}
 
 /// An entry that may follow a legal history makes another legal one of it, below the limit.

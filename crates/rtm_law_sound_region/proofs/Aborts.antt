@@ -3,8 +3,8 @@ use Rattle.std.proofs.Common.{ℕ, Bool, true, false, Option, refl, arith}
 use Rattle.rtm_codes.specs.declared.code.Code.{Code}
 use Rattle.rtm_codes.specs.Code.{IsInRange}
 use Rattle.rtm_model.specs.declared.error_record.ErrorRecord.{ErrorRecord}
-use Rattle.rtm_model.specs.Births.{abterm_abort, cancel_abort, detach_abort, mother_abort, srb_abort, step_abort}
-use Rattle.rtm_model.specs.Soundness.{IsReason, IsRecord}
+use Rattle.rtm_model.specs.Posts.{abterm_abort, cancel_abort, detach_abort, mother_abort, srb_abort, step_abort}
+use Rattle.rtm_model.specs.inner.Soundness.{IsReason, IsRecord}
 use Rattle.rtm_law_sound_region.proofs.Posted.{IsPosted}
 
 pub cancel_posted : (n : ℕ) (dump : Bool) → IsPosted n (cancel_abort n dump)

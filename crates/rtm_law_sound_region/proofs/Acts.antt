@@ -21,15 +21,15 @@ use Rattle.rtm_model.specs.declared.holding.Manager1.{Manager1}
 use Rattle.rtm_model.specs.declared.outcome.Outcome.{Outcome}
 use Rattle.rtm_model.specs.declared.outcome.Outcome.TheVariants.{Abends, Executed, Returns, Waits}
 use Rattle.rtm_model.specs.declared.reg.Reg.{Reg}
-use Rattle.rtm_model.specs.Applies.{CanApply, CanMake}
-use Rattle.rtm_model.specs.Births.{advance}
+use Rattle.rtm_model.specs.inner.Applies.{CanApply, CanMake}
+use Rattle.rtm_model.specs.Advance.{advance}
 use Rattle.rtm_model.specs.Blocks.{newest_block}
 use Rattle.rtm_model.specs.Cards.{in_manager, manages, outcome, outcome_by, wrong_mode}
 use Rattle.rtm_model.specs.Legal.{MayFollow}
 use Rattle.rtm_model.specs.Levels.{Bracket, current, error_in, is_manager}
 use Rattle.rtm_model.specs.NextEntry.{card_entry, card_entry_at, card_entry_by, eligible_routine, first_case, handling_of, is_outermost, last_return, manager_or, master_act, next, next_master, next_of_master, next_of_unit, next_unit, release_or}
 use Rattle.rtm_model.specs.Surroundings.{surroundings}
-use Rattle.rtm_model.specs.Soundness.{AreNested, IsCoreSound, IsSound, OutermostQuiet, StandsIn}
+use Rattle.rtm_model.specs.inner.Soundness.{AreNested, IsCoreSound, IsSound, OutermostQuiet, StandsIn}
 use Rattle.rtm_model.specs.Tasks.{Tree, is_living}
 use Rattle.rtm_model.specs.World.{Core, World, core_at, lives_in, master}
 use Rattle.rtm_law_sound_region.proofs.Beyond.{AddsManagers, AddsToTask}
@@ -98,10 +98,10 @@ carded_at_adds d c a (Some block) h = carded_by_adds d c a block.place (outcome 
 
 -- The master's next entry
 
-handled_adds : (d : DeckView) (r : ErrorRecord) (routine own : Option Reg) → AddsNoManager d (handling_of r routine own)
-handled_adds d r (Some reg) own = tt
-handled_adds d r None (Some own) = tt
-handled_adds d r None None = tt
+handled_adds : (d : DeckView) (sdwa : Bool) (r : ErrorRecord) (routine own : Option Reg) → AddsNoManager d (handling_of sdwa r routine own)
+handled_adds d sdwa r (Some reg) own = tt
+handled_adds d sdwa r None (Some own) = tt
+handled_adds d sdwa r None None = tt
 
 released_adds : (d : DeckView) (code : Code) (manager : Option Manager1) (holding : Option Holding) → AddsNoManager d (manager_or code manager (release_or holding whats.MemEnd))
 released_adds d code (Some manager) holding = tt
@@ -117,13 +117,13 @@ going_adds : (b : Bool) (d : DeckView) (c : Core) (a : Surroundings) (code : Cod
 going_adds true d c a code living h = act_adds d code living a
 going_adds false d c a code living h = carded_at_adds d c a (newest_block c.blocks) (h refl)
 
-first_adds : (d : DeckView) (c : Core) (error : Option ErrorRecord) (rest : Option What) → IfSome rest (AddsNoManager d) → IfSome (first_case c error None rest) (AddsNoManager d)
-first_adds d c (Some r) rest h = handled_adds d r (eligible_routine c r) (current c.levels)
-first_adds d c None rest h = h
+first_adds : (d : DeckView) (sdwa : Bool) (c : Core) (error : Option ErrorRecord) (rest : Option What) → IfSome rest (AddsNoManager d) → IfSome (first_case sdwa c error None rest) (AddsNoManager d)
+first_adds d sdwa c (Some r) rest h = handled_adds d sdwa r (eligible_routine c r) (current c.levels)
+first_adds d sdwa c None rest h = h
 
 master_adds : (d : DeckView) (c : Core) (a : Surroundings) (code : Code) (living : Option ℕ) → (is_outermost c.levels ≡ false → in_manager c.levels ≡ true)
     → IfSome (next_master d c a code living) (AddsNoManager d)
-master_adds d c a code living h = first_adds d c (error_in c.levels) _ (going_adds (is_outermost c.levels) d c a code living h)
+master_adds d c a code living h = first_adds d d.sdwa c (error_in c.levels) _ (going_adds (is_outermost c.levels) d c a code living h)
 
 -- The master's brackets
 

@@ -5,11 +5,13 @@ use Rattle.std.proofs.lemmas.List.{length-set}
 use Rattle.rtm_deck_items.specs.View.{DeckView}
 use Rattle.rtm_model.specs.declared.abort.Abort.{Abort}
 use Rattle.rtm_model.specs.declared.reg.Reg.{Reg}
-use Rattle.rtm_model.specs.Births.{post_to_subtasks, purged_core, with_posted}
-use Rattle.rtm_model.specs.Soundness.{born_units}
+use Rattle.rtm_model.specs.Posts.{post_to_subtasks, with_posted}
+use Rattle.rtm_model.specs.Advance.{purged_core}
+use Rattle.rtm_model.specs.inner.Soundness.{born_units}
 use Rattle.rtm_model.specs.Tasks.{Dormant, Life, Lives, ended_life, is_dormant, is_living, life_of, with_birth, with_end}
 use Rattle.rtm_model.specs.World.{UnitOfWork, at_birth, on_unit, unborn_unit, unit_at}
-use Rattle.rtm_law_sound_region.proofs.Lists.{both_each_set, each_set}
+use Rattle.rtm_model.proofs.Lists.{each_set}
+use Rattle.rtm_law_sound_region.proofs.Lists.{both_each_set}
 use Rattle.rtm_law_sound_region.proofs.Lives.{counted_birth, counted_end, unit_born, unit_ended, unit_purged}
 use Rattle.rtm_law_sound_region.proofs.Posted.{IsPosted, length_subtasks, subtasks_posted, unit_posted}
 use Rattle.rtm_law_sound_region.proofs.Units.{IsUnitSound, is_up, unit_later, unit_more}

@@ -13,19 +13,22 @@ use Rattle.rtm_deck_items.proofs.Lists.{both_true}
 use Rattle.rtm_model.specs.declared.entry.What.{What}
 use Rattle.rtm_model.specs.declared.entry.What.TheVariants as whats
 use Rattle.rtm_model.specs.declared.holding.Manager1.{Manager1}
-use Rattle.rtm_model.specs.Applies.{CanExecute, CanMake, IsDormant}
-use Rattle.rtm_model.specs.Births.{abterm_abort, after_attach, beyond, beyond_card, detach_abort, mother_abort, own_change, with_unit}
+use Rattle.rtm_model.specs.inner.Applies.{CanExecute, CanMake, IsDormant}
+use Rattle.rtm_model.specs.Posts.{abterm_abort, detach_abort, mother_abort}
+use Rattle.rtm_model.specs.OwnChange.{own_change}
+use Rattle.rtm_model.specs.Advance.{after_attach, beyond, beyond_card, with_unit}
 use Rattle.rtm_model.specs.Ending.{is_equal_manager}
 use Rattle.rtm_model.specs.Levels.{is_manager}
 use Rattle.rtm_model.specs.Surroundings.{manager_task}
-use Rattle.rtm_model.specs.Soundness.{IsRecord}
+use Rattle.rtm_model.specs.inner.Soundness.{IsRecord}
 use Rattle.rtm_model.specs.Tasks.{Tree, life_of}
 use Rattle.rtm_model.specs.World.{Beginning, Core, UnitOfWork, World, core_at, on_unit, unborn_unit, unit_at}
 use Rattle.rtm_law_sound_region.proofs.Aborts.{abterm_posted, detach_posted, mother_posted}
 use Rattle.rtm_law_sound_region.proofs.AllUnits.{units_subtasks}
-use Rattle.rtm_law_sound_region.proofs.Cards.{IsCard, abend_code, given_reason, program_in, srb_in, task_in}
+use Rattle.rtm_law_sound_region.proofs.Cards.{IsCard, program_in, srb_in, task_in}
 use Rattle.rtm_law_sound_region.proofs.Entries.{LivesBelow}
-use Rattle.rtm_law_sound_region.proofs.Lists.{set_kept}
+use Rattle.rtm_model.proofs.Codes.{abend_code, reason_code}
+use Rattle.rtm_model.proofs.Lists.{set_kept}
 use Rattle.rtm_law_sound_region.proofs.Managers.{AreManagers, managers_added, managers_filtered, managers_without}
 use Rattle.rtm_law_sound_region.proofs.Owners.{AreOwners, owners_freed, owners_got}
 use Rattle.rtm_law_sound_region.proofs.Worlds.{BeganWith, IsRegion, region_arrived, region_attached, region_ended, region_posted, region_purged, region_scheduled}
@@ -83,7 +86,7 @@ card_beyond d n u rc (ops.Abterm unit code reason dump retry) w units card adds 
     let abc = both_true _ (is_reason reason) card.fits in
     let ab = both_true (is_task_in d unit) (is_abend_code code) abc.0 in
     region_posted d n unit (abterm_abort n code reason dump retry) (with_units units w)
-    (abterm_posted n code reason dump retry (abend_code code ab.1) (given_reason reason abc.1)) r
+    (abterm_posted n code reason dump retry (abend_code code ab.1) (reason_code reason abc.1)) r
 card_beyond d n u rc (ops.Memterm code) w units card adds can o g r = record { units = r.units; owners = r.owners; managers = r.managers; memory_end = abend_code code card.fits }
 card_beyond d n u rc (ops.MgrAdd prog space) w units card adds can o g r = record {
   units = r.units;

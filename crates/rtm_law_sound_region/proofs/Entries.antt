@@ -4,11 +4,14 @@ use Rattle.rtm_codes.specs.declared.code.Code.{Code}
 use Rattle.rtm_deck_items.specs.View.{DeckView}
 use Rattle.rtm_deck_items.specs.Reading.{op_at}
 use Rattle.rtm_model.specs.declared.abort.Abort.{Abort}
+use Rattle.rtm_model.specs.declared.entry.Class.{Class}
 use Rattle.rtm_model.specs.declared.entry.What.{What}
 use Rattle.rtm_model.specs.declared.entry.What.TheVariants as whats
-use Rattle.rtm_model.specs.Aborts.{after_landing, first_abort}
-use Rattle.rtm_model.specs.Applies.{CanMake}
-use Rattle.rtm_model.specs.Births.{after_begin, own_change, place_after, routine_named}
+use Rattle.rtm_model.specs.Aborts.{abort_named, after_landing}
+use Rattle.rtm_model.specs.inner.Applies.{CanMake}
+use Rattle.rtm_model.specs.OwnChange.{after_begin, own_change, place_after, routine_named}
+use Rattle.rtm_model.specs.NextEntry.{landed_record}
+use Rattle.rtm_model.specs.Record.{mark_of}
 use Rattle.rtm_model.specs.Tasks.{Life, Tree, is_living, life_of}
 use Rattle.rtm_model.specs.World.{Core, UnitOfWork, World, core_at, unit_at}
 use Rattle.rtm_law_sound_region.proofs.Own.{card_kept, entered_kept, error_kept, landed_kept, left_kept, placed_deep}
@@ -24,8 +27,8 @@ core_kept : (m n born v : ℕ) (life : Life) (unit : UnitOfWork) (c : Core) → 
     → IsKept (is_up life unit.core) unit.core c → IsUnitSound m n born v life (record unit { core = c })
 core_kept m n born v life unit c s lives k = unit_kept m n born v life unit c unit.pending s k s.pending (λ e. e) lives
 
-landed_none : (aborts : List Abort) → aborts ≡ [] → after_landing aborts ≡ []
-landed_none aborts e = rw e
+landed_none : (class : Class) (from : ℕ) (aborts : List Abort) → aborts ≡ [] → after_landing class from aborts ≡ []
+landed_none class from aborts e = rw e refl
 
 never : (b : Bool) → (b && false) ≡ false
 never true = refl
@@ -55,11 +58,11 @@ own_kept d n m born w u (whats.Error at mark) h lives s =
     (error_kept _ _ (core_at u w) s.blocks (placed_deep _ (core_at u w) s.blocks h.0.some))
 own_kept d n m born w u (whats.Land class from mark) h lives s =
     unit_kept m (n + 1) born u (life_of u (Tree.lives w.tree)) (unit_at u w.units) _ _ s
-    (landed_kept (first_abort (UnitOfWork.pending (unit_at u w.units))) _ (core_at u w) s.blocks h.0)
-    (landed_pending (n + 1) _ s.pending) (landed_none _) lives
-own_kept d n m born w u (whats.Enter kind reg mark) h lives s =
+    (landed_kept (abort_named class from (UnitOfWork.pending (unit_at u w.units))) _ (core_at u w) s.blocks h.0)
+    (landed_pending (n + 1) class from (λ abort. mark ≡ mark_of (landed_record abort)) _ h.2 s.pending) (landed_none class from _) lives
+own_kept d n m born w u (whats.Enter kind reg mark bare) h lives s =
     core_kept m (n + 1) born u (life_of u (Tree.lives w.tree)) (unit_at u w.units) _ s lives
-    (entered_kept n (routine_named kind reg w.managers (core_at u w)) _ (core_at u w) s.blocks)
+    (entered_kept n bare (routine_named kind reg w.managers (core_at u w)) _ (core_at u w) s.blocks)
 own_kept d n m born w u (whats.Leave kind reg verdict logrec dump) h lives s =
     core_kept m (n + 1) born u (life_of u (Tree.lives w.tree)) (unit_at u w.units) _ s lives
     (left_kept kind reg verdict _ (core_at u w) s.blocks h.inner)

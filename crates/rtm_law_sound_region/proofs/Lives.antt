@@ -2,8 +2,8 @@
 use Rattle.std.proofs.Common.{◌≡◌, ℕ, zero, suc, ◌+◌, ◌<◌, Bool, true, false, ◌&&◌, List, [], ◌∷◌, length, set, Option, refl, sym, subst, arith}
 use Rattle.std.specs.Prelude.{is_none}
 use Rattle.rtm_model.specs.declared.reg.Reg.{Reg}
-use Rattle.rtm_model.specs.Births.{purged_core}
-use Rattle.rtm_model.specs.Soundness.{born_units}
+use Rattle.rtm_model.specs.Advance.{purged_core}
+use Rattle.rtm_model.specs.inner.Soundness.{born_units}
 use Rattle.rtm_model.specs.Tasks.{Dormant, HasEnded, Life, Lives, ended_life, is_dormant, is_living, life_of, with_end}
 use Rattle.rtm_model.specs.World.{Core, UnitOfWork, at_birth, unborn_unit}
 use Rattle.rtm_law_sound_region.proofs.Pending.{none_pending}

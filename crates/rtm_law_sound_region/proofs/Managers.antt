@@ -4,14 +4,14 @@ use Rattle.std.specs.Prelude.{IfSome, filter}
 use Rattle.std.specs.List.{AllByRecursion}
 use Rattle.rtm_deck_items.specs.View.{DeckView}
 use Rattle.rtm_model.specs.declared.holding.Manager1.{Manager1}
+use Rattle.rtm_model.specs.Limits.{most_managers}
 use Rattle.rtm_model.specs.Chains.{without_first}
-use Rattle.rtm_model.specs.Soundness.{IsManager, ManagersFall}
-use Rattle.rtm_model.proofs.Lists.{AllByRecursion-filter, length-filter-le}
-use Rattle.rtm_law_sound_region.proofs.Lists.{all_without_first, length-without_first-le}
+use Rattle.rtm_model.specs.inner.Soundness.{IsManager, ManagersFall}
+use Rattle.rtm_model.proofs.Lists.{AllByRecursion-filter, all_without_first, length-filter-le, length-without_first-le}
 
 -- the resource managers after n entries
 pub record AreManagers (d : DeckView) (n : ℕ) (managers : List Manager1) : Type 0 where
-  pub few : length managers ≤ 64
+  pub few : length managers ≤ most_managers
   pub each : AllByRecursion (IsManager d) managers
   pub fall : ManagersFall n managers
 
@@ -43,7 +43,7 @@ managers_later d n managers s = record { few = s.few; each = s.each; fall = fall
 
 -- RESMGR ADD
 pub managers_added : (d : DeckView) (n prog : ℕ) (task : Option ℕ) (managers : List Manager1) → prog < length d.programs → IfSome task (λ task. task < length d.units)
-    → length managers < 64 → AreManagers d n managers → AreManagers d (n + 1) (record { born = n; prog = prog; task = task } ∷ managers)
+    → length managers < most_managers → AreManagers d n managers → AreManagers d (n + 1) (record { born = n; prog = prog; task = task } ∷ managers)
 managers_added d n prog task managers lt there room s = record { few = omega arith; each = (record { prog = lt; task = there }, s.each); fall = (omega arith, s.fall) }
 
 -- RESMGR DELETE

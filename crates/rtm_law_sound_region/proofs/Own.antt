@@ -1,7 +1,6 @@
 -- What an entry keeps of its own unit.
 use Rattle.std.proofs.Common.{◌≡◌, ℕ, ◌+◌, ◌≤◌, Bool, true, false, cond, List, [], ◌∷◌, length, Option, Some, None, refl, ◌∙◌, arith}
 use Rattle.std.specs.Prelude.{if◌then◌else◌}
-use Rattle.std.specs.Option.{option_map}
 use Rattle.rtm_deck_items.specs.declared.op.Op.{Op}
 use Rattle.rtm_deck_items.specs.declared.op.Op.TheVariants as ops
 use Rattle.rtm_model.specs.declared.abort.Abort.{Abort}
@@ -12,12 +11,13 @@ use Rattle.rtm_model.specs.declared.entry.Verdict.TheVariants as verdicts
 use Rattle.rtm_model.specs.declared.error_record.ErrorRecord.{ErrorRecord}
 use Rattle.rtm_model.specs.declared.reg.Kind.{Kind}
 use Rattle.rtm_model.specs.declared.reg.Reg.{Reg}
-use Rattle.rtm_model.specs.Births.{after_retry, estais_left, own_card, with_error, with_landed, with_routine_entered, with_routine_left, without_left}
+use Rattle.rtm_model.specs.OwnChange.{after_retry, estais_left, move_to, own_card, with_error, with_landed, with_routine_entered, with_routine_left, without_left}
 use Rattle.rtm_model.specs.Blocks.{has_one_block, in_newest_bracket, newest_bracket, without_bracket, without_newest}
-use Rattle.rtm_model.specs.Levels.{Bracket, after_enter, after_error, after_leave, after_verdict, at_enclosing, at_innermost, on_record, recovers}
-use Rattle.rtm_model.specs.Soundness.{OutermostQuiet}
+use Rattle.rtm_model.specs.Levels.{Bracket, after_leave, after_verdict, with_open}
+use Rattle.rtm_model.specs.Record.{ret15_in, setrp_in}
 use Rattle.rtm_model.specs.World.{Core}
 use Rattle.rtm_model.proofs.Lists.{length-filter-le}
+use Rattle.rtm_model.proofs.Levels.{after_record, length_innermost, length_record, quiet_entered, quiet_innermost, quiet_left, quiet_record}
 use Rattle.rtm_law_sound_region.proofs.Units.{IsKept}
 
 -- a unit has as many request-block brackets as levels, but one less where it doesn't stand
@@ -34,27 +34,8 @@ length_return_if : (b : Bool) (brackets : List (List Block)) → length (cond b 
 length_return_if true brackets = refl
 length_return_if false brackets = length_newest without_newest brackets
 
-length_setrp_if : (b : Bool) (f : Bracket → Bracket) (ls : List Bracket) → length (cond b (at_enclosing f ls) ls) ≡ length ls
-length_setrp_if true f [] = refl
-length_setrp_if true f (l ∷ []) = refl
-length_setrp_if true f (l ∷ k ∷ ls) = refl
-length_setrp_if false f ls = refl
-
 same_count : (x a b l m : ℕ) → a ≡ b → l ≡ m → b + x ≡ m → a + x ≡ l
 same_count x a b l m e f h = omega arith
-
--- the error of the outermost bracket
-
-mapped_none : {X Y : Type 0} (f : X → Y) (o : Option X) → o ≡ None → option_map f o ≡ None
-mapped_none f None e = refl
-mapped_none f (Some x) e = absurd cc
-
-setrp_quiet_if : (b : Bool) (f : ErrorRecord → ErrorRecord) (ls : List Bracket) → OutermostQuiet ls → OutermostQuiet (cond b (at_enclosing (on_record f) ls) ls)
-setrp_quiet_if true f [] h = h
-setrp_quiet_if true f (l ∷ []) h = h
-setrp_quiet_if true f (l ∷ k ∷ []) h = mapped_none f k.error h
-setrp_quiet_if true f (l ∷ k ∷ j ∷ ls) h = h
-setrp_quiet_if false f ls h = h
 
 -- Cards
 
@@ -68,28 +49,23 @@ same_kept up c blocks frrs estaes h e = record {
   outermost = λ down quiet. quiet;
 }
 
+-- SETRP and RET15
+record_kept : (place : Place) (f : ErrorRecord → ErrorRecord) (up : Bool) (c : Core) → IsCounted up c → IsKept up c (move_to place (record c { levels = after_record f c.levels }))
+record_kept place f up c h = record {
+  begun = refl;
+  counts = same_count (if up then 0 else 1) _ (length (Core.blocks c)) _ (length (Core.levels c)) (length_newest _ c.blocks) (length_record f c.levels) h;
+  estais = omega arith;
+  outermost = λ down quiet. quiet_record f c.levels quiet;
+}
+
 pub card_kept : (n : ℕ) (place : Place) (op : Op) (up : Bool) (c : Core) → IsCounted up c → IsKept up c (own_card n place op c)
 card_kept n place (ops.Link prog) up c h = same_kept up c _ c.frrs c.estaes h (length_newest _ (in_newest_bracket _ c.blocks) ∙ length_newest _ c.blocks)
 card_kept n place (ops.Return) up c h = same_kept up c _ c.frrs _ h (length_return_if (has_one_block c.blocks) c.blocks)
-card_kept n place (ops.SetRp setrp) up c h = record {
-  begun = refl;
-  counts = same_count (if up then 0 else 1) _ (length (Core.blocks c)) _ (length (Core.levels c)) (length_newest _ c.blocks) (length_setrp_if (recovers c.levels) _ c.levels) h;
-  estais = omega arith;
-  outermost = λ down quiet. setrp_quiet_if (recovers c.levels) _ c.levels quiet;
-}
+card_kept n place (ops.SetRp setrp) up c h = record_kept place (setrp_in setrp) up c h
+card_kept n place (ops.Ret15 rc label) up c h = record_kept place (ret15_in rc label) up c h
 card_kept n place _ up c h = same_kept up c _ _ _ h (length_newest _ c.blocks)
 
 -- Errors and routines
-
-length_innermost : (f : Bracket → Bracket) (ls : List Bracket) → length (at_innermost f ls) ≡ length ls
-length_innermost f [] = refl
-length_innermost f (l ∷ ls) = refl
-
--- an error that opens in another bracket than the outermost
-error_quiet : (r : ErrorRecord) (ls : List Bracket) → 2 ≤ length ls → OutermostQuiet ls → OutermostQuiet (after_error r ls)
-error_quiet r [] some h = h
-error_quiet r (l ∷ []) some h = absurd (omega arith)
-error_quiet r (l ∷ k ∷ ls) some h = h
 
 -- a bracket with a request block, of a unit that doesn't stand, is not the outermost
 inner : (blocks : List (List Block)) (levels : ℕ) → 1 ≤ length (newest_bracket blocks) → length blocks + 1 ≡ levels → 2 ≤ levels
@@ -101,7 +77,7 @@ error_kept r up c h deep = record {
   begun = refl;
   counts = same_count (if up then 0 else 1) (length (Core.blocks c)) (length (Core.blocks c)) _ (length (Core.levels c)) refl (length_innermost _ c.levels) h;
   estais = omega arith;
-  outermost = λ down quiet. error_quiet r c.levels (deep down) quiet;
+  outermost = λ down quiet. quiet_innermost (with_open (Some r)) c.levels (deep down) quiet;
 }
 
 pub placed_deep : (up : Bool) (c : Core) → IsCounted up c → 1 ≤ length (newest_bracket (Core.blocks c)) → up ≡ false → 2 ≤ length (Core.levels c)
@@ -117,13 +93,9 @@ landed_kept (Some abort) up c h stands = record {
   outermost = λ down quiet. absurd cc;
 }
 
-entered_quiet : (reg : Reg) (ls : List Bracket) → OutermostQuiet ls → OutermostQuiet (after_enter reg ls)
-entered_quiet reg [] h = refl
-entered_quiet reg (l ∷ ls) h = h
-
-pub entered_kept : (n : ℕ) (o : Option Reg) (up : Bool) (c : Core) → IsCounted up c → IsKept up c (with_routine_entered n o c)
-entered_kept n None up c h = record { begun = refl; counts = h; estais = omega arith; outermost = λ down quiet. quiet }
-entered_kept n (Some reg) up c h = record { begun = refl; counts = omega arith; estais = omega arith; outermost = λ down quiet. entered_quiet reg c.levels quiet }
+pub entered_kept : (n : ℕ) (bare : Bool) (o : Option Reg) (up : Bool) (c : Core) → IsCounted up c → IsKept up c (with_routine_entered n bare o c)
+entered_kept n bare None up c h = record { begun = refl; counts = h; estais = omega arith; outermost = λ down quiet. quiet }
+entered_kept n bare (Some reg) up c h = record { begun = refl; counts = omega arith; estais = omega arith; outermost = λ down quiet. quiet_entered reg bare c.levels quiet }
 
 -- a routine is left
 
@@ -134,17 +106,6 @@ without_left_le false born regs = omega arith
 estais_left_le : (verdict : Verdict) (gone : Bool) (kind : Kind) (born : ℕ) (estais : List Reg) → length (estais_left verdict gone kind born estais) ≤ length estais
 estais_left_le verdicts.Stop gone kind born estais = omega arith
 estais_left_le _ gone kind born estais = without_left_le _ born estais
-
-verdict_none : (verdict : Verdict) (e : Option ErrorRecord) (l : Bracket) → l.error ≡ None → Bracket.error (after_verdict verdict e l) ≡ None
-verdict_none (verdicts.Retry place) e l h = refl
-verdict_none verdicts.Over e l h = h
-verdict_none _ e l h = mapped_none _ l.error h
-
-leave_quiet : (verdict : Verdict) (ls : List Bracket) → OutermostQuiet ls → OutermostQuiet (after_leave verdict ls)
-leave_quiet verdict [] h = tt
-leave_quiet verdict (l ∷ []) h = tt
-leave_quiet verdict (l ∷ k ∷ []) h = verdict_none verdict l.error k h
-leave_quiet verdict (l ∷ k ∷ j ∷ ls) h = h
 
 leave_counts : (x : ℕ) (verdict : Verdict) (blocks : List (List Block)) (ls : List Bracket) → x ≤ 1 → 2 ≤ length ls → length blocks + x ≡ length ls → length (without_bracket blocks) + x ≡ length (after_leave verdict ls)
 leave_counts x verdict [] ls le some h = absurd (omega arith)
@@ -170,5 +131,5 @@ left_kept kind born verdict up c h some = retry_kept verdict _ up c _ (record {
   begun = refl;
   counts = leave_counts (if up then 0 else 1) verdict c.blocks c.levels (at_most_one up) some h;
   estais = estais_left_le verdict _ kind born c.estais;
-  outermost = λ down quiet. leave_quiet verdict c.levels quiet;
+  outermost = λ down quiet. quiet_left verdict c.levels quiet;
 })

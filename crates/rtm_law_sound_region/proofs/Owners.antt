@@ -4,10 +4,11 @@ use Rattle.std.proofs.lemmas.List.{length-set}
 use Rattle.rtm_deck_operands.specs.declared.value.Res.{Res}
 use Rattle.rtm_deck_operands.specs.declared.value.Res.TheVariants.{Dsn, Enq, Stor, Timr}
 use Rattle.rtm_model.specs.declared.holding.Holding.{Holding}
+use Rattle.rtm_model.specs.Limits.{most_holdings}
 use Rattle.rtm_model.specs.Chains.{without_first}
 use Rattle.rtm_model.specs.Ending.{Holdings, after_free, after_get, held_count, holdings_of, is_of_id, no_holdings, of_class, on_class}
-use Rattle.rtm_model.specs.Soundness.{AreHeld, AreHoldings, HoldingsFall, IsHolding}
-use Rattle.rtm_law_sound_region.proofs.Lists.{all_without_first, each_set, length-without_first-le}
+use Rattle.rtm_model.specs.inner.Soundness.{AreHeld, AreHoldings, HoldingsFall, IsHolding}
+use Rattle.rtm_model.proofs.Lists.{all_without_first, each_set, length-without_first-le}
 
 -- the holdings of all owners after n entries, of a deck of m units
 pub record AreOwners (m n : ℕ) (owners : List Holdings) : Type 0 where
@@ -54,7 +55,7 @@ class_of n owner Dsn held s = s.dsn
 class_of n owner Timr held s = s.timr
 
 class_changed : (n owner : ℕ) (class : Res) (f : List Holding → List Holding) (held : Holdings) → AreHoldings n owner held → AreHeld n owner class (f (of_class class held))
-    → held_count (on_class class f held) ≤ 256 → AreHoldings n owner (on_class class f held)
+    → held_count (on_class class f held) ≤ most_holdings → AreHoldings n owner (on_class class f held)
 class_changed n owner Enq f held s h few = record { few = few; enq = h; stor = s.stor; dsn = s.dsn; timr = s.timr }
 class_changed n owner Stor f held s h few = record { few = few; enq = s.enq; stor = h; dsn = s.dsn; timr = s.timr }
 class_changed n owner Dsn f held s h few = record { few = few; enq = s.enq; stor = s.stor; dsn = h; timr = s.timr }
@@ -69,7 +70,7 @@ owner_changed m n owner owners held s here = record {
 
 -- GET
 
-got_count : (class : Res) (holding : Holding) (held : Holdings) → held_count held < 256 → held_count (on_class class (λ held. holding ∷ held) held) ≤ 256
+got_count : (class : Res) (holding : Holding) (held : Holdings) → held_count held < most_holdings → held_count (on_class class (λ held. holding ∷ held) held) ≤ most_holdings
 got_count Enq holding held lt = omega arith
 got_count Stor holding held lt = omega arith
 got_count Dsn holding held lt = omega arith
@@ -79,7 +80,7 @@ got_class : (n owner : ℕ) (class : Res) (holding : Holding) (held : List Holdi
     → AreHeld (n + 1) owner class (holding ∷ held)
 got_class n owner class holding held h e s = record { each = (h, s.each); fall = (omega arith, rw e s.fall) }
 
-pub owners_got : (m n owner id : ℕ) (class : Res) (owners : List Holdings) → id ≤ 999999 → held_count (holdings_of owner owners) < 256 → AreOwners m n owners
+pub owners_got : (m n owner id : ℕ) (class : Res) (owners : List Holdings) → id ≤ 999999 → held_count (holdings_of owner owners) < most_holdings → AreOwners m n owners
     → AreOwners m (n + 1) (after_get (record { born = n; class = class; id = id; owner = owner }) owners)
 owners_got m n owner id class owners few room s =
     let held = holdings_of owner owners in
@@ -91,7 +92,7 @@ owners_got m n owner id class owners few room s =
 
 -- FREE, and a release
 
-freed_count : (class : Res) (p : Holding → Bool) (held : Holdings) → held_count held ≤ 256 → held_count (on_class class (without_first p) held) ≤ 256
+freed_count : (class : Res) (p : Holding → Bool) (held : Holdings) → held_count held ≤ most_holdings → held_count (on_class class (without_first p) held) ≤ most_holdings
 freed_count Enq p held le = omega (arith, length-without_first-le p held.enq)
 freed_count Stor p held le = omega (arith, length-without_first-le p held.stor)
 freed_count Dsn p held le = omega (arith, length-without_first-le p held.dsn)

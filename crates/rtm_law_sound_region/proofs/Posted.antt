@@ -2,8 +2,8 @@
 use Rattle.std.proofs.Common.{◌≡◌, ℕ, zero, suc, ◌+◌, Bool, true, false, cond, not, ◌&&◌, ◌||◌, List, [], ◌∷◌, length, Option, Some, None, refl, arith}
 use Rattle.std.specs.Prelude.{if◌then◌else◌, is_none, is_some}
 use Rattle.rtm_model.specs.declared.abort.Abort.{Abort}
-use Rattle.rtm_model.specs.Births.{post_to_subtasks, with_posted}
-use Rattle.rtm_model.specs.Soundness.{IsAbort}
+use Rattle.rtm_model.specs.Posts.{post_to_subtasks, with_posted}
+use Rattle.rtm_model.specs.inner.Soundness.{IsAbort}
 use Rattle.rtm_model.specs.Tasks.{Dormant, HasEnded, Life, Lives, is_living, is_subtask_of, life_of}
 use Rattle.rtm_model.specs.World.{Beginning, Core, UnitOfWork, unit_at}
 use Rattle.rtm_law_sound_region.proofs.Pending.{posted_pending}

@@ -9,10 +9,12 @@ use Rattle.rtm_deck_items.specs.WellFormed.{is_well_formed}
 use Rattle.rtm_model.specs.declared.entry.Entry.{Entry}
 use Rattle.rtm_model.specs.declared.entry.What.{What}
 use Rattle.rtm_model.specs.declared.entry.What.TheVariants as whats
-use Rattle.rtm_model.specs.Applies.{CanApply}
-use Rattle.rtm_model.specs.Births.{advance, own_change}
+use Rattle.rtm_model.specs.inner.Applies.{CanApply}
+use Rattle.rtm_model.specs.Limits.{most_managers}
+use Rattle.rtm_model.specs.OwnChange.{own_change}
+use Rattle.rtm_model.specs.Advance.{advance}
 use Rattle.rtm_model.specs.Ending.{holdings_of}
-use Rattle.rtm_model.specs.Soundness.{AreHoldings, ArePending, IsCoreSound, IsManager, IsSound, ManagersFall, OutermostQuiet, born_units, stands}
+use Rattle.rtm_model.specs.inner.Soundness.{AreHoldings, ArePending, IsCoreSound, IsManager, IsSound, ManagersFall, OutermostQuiet, born_units, stands}
 use Rattle.rtm_model.specs.Tasks.{Dormant, Tree, is_dormant, life_of}
 use Rattle.rtm_model.specs.World.{Core, UnitOfWork, World, core_at, lives_in, master, on_unit, unborn_unit, unit_at}
 use Rattle.rtm_law_sound_region.proofs.AllUnits.{AreUnits, units_changed, units_later}
@@ -36,7 +38,7 @@ pub record RegionIsSound (d : DeckView) (n : ℕ) (w : World) : Type 0 where
   pub pending : (u : ℕ) → ArePending n (UnitOfWork.pending (unit_at u w.units))
   pub quiet : (u : ℕ) → stands w u ≡ false → UnitOfWork.pending (unit_at u w.units) ≡ []
   pub holdings : (u : ℕ) → AreHoldings n u (holdings_of u w.holdings)
-  pub managers_few : length w.managers ≤ 64
+  pub managers_few : length w.managers ≤ most_managers
   pub managers : AllByRecursion (IsManager d) w.managers
   pub managers_fall : ManagersFall n w.managers
   pub memory_end : IfSome w.memory_end IsInRange

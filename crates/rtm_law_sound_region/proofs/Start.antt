@@ -1,18 +1,17 @@
 -- What lives before the first entry.
-use Rattle.std.proofs.Common.{◌≡◌, ℕ, zero, suc, ◌+◌, ◌<◌, Bool, true, false, cond, List, [], ◌∷◌, ◌++◌, length, map, replicate, Some, None, refl, sym, subst, ◌∙◌, arith}
-use Rattle.std.proofs.lemmas.Bool.{ltb-true}
+use Rattle.std.proofs.Common.{◌≡◌, ℕ, zero, suc, ◌+◌, ◌<◌, true, List, [], ◌∷◌, ◌++◌, length, map, replicate, None, refl, sym, subst, ◌∙◌, arith}
 use Rattle.std.proofs.lemmas.List.{length-replicate, length-set}
-use Rattle.std.specs.Prelude.{IsTrue, nat_lt, unwrap_or}
-use Rattle.std.specs.List.{list_any, position_or_len}
+use Rattle.std.specs.Prelude.{IsTrue}
 use Rattle.rtm_deck_items.specs.declared.deck.Unit.{Unit as UnitCard}
-use Rattle.rtm_deck_items.specs.Reading.{is_task_card, job_step, program_of}
+use Rattle.rtm_deck_items.specs.Reading.{job_step, program_of}
 use Rattle.rtm_deck_items.specs.View.{DeckView}
 use Rattle.rtm_deck_items.specs.WellFormed.{is_well_formed}
-use Rattle.rtm_deck_items.proofs.FormFacts.{conditions}
 use Rattle.rtm_model.specs.Ending.{holdings_of, no_holdings}
-use Rattle.rtm_model.specs.Soundness.{AreHoldings, born_units}
+use Rattle.rtm_model.specs.inner.Soundness.{AreHoldings, born_units}
 use Rattle.rtm_model.specs.Tasks.{Dormant, Life, Lives, is_dormant, life_of, lives_at_start}
 use Rattle.rtm_model.specs.World.{UnitOfWork, at_birth, on_unit, start, unborn_unit, unit_at}
+pub use Rattle.rtm_model.proofs.Start.{job_step_in}
+use Rattle.rtm_model.proofs.Start.{all_dormant, all_unborn, length-dormant, length-unborn}
 use Rattle.rtm_law_sound_region.proofs.AllUnits.{AreUnits}
 use Rattle.rtm_law_sound_region.proofs.Lists.{both_each_set}
 use Rattle.rtm_law_sound_region.proofs.Lives.{counted_birth, unit_born}
@@ -22,32 +21,7 @@ use Rattle.rtm_law_sound_region.proofs.Region.{RegionIsSound, fields}
 use Rattle.rtm_law_sound_region.proofs.Units.{IsUnitSound}
 use Rattle.rtm_law_sound_region.proofs.Worlds.{IsRegion}
 
--- The job step task is a unit of the deck
-
-first_if : (b : Bool) (k m : ℕ) → nat_lt k m ≡ b → 0 < m → unwrap_or (cond b (Some k) None) 0 < m
-first_if true k m e some = ltb-true k m e
-first_if false k m e some = some
-
-some_where : {X : Type 0} (p : X → Bool) (xs : List X) → list_any p xs ≡ true → 0 < length xs
-some_where p [] h = absurd cc
-some_where p (x ∷ xs) h = omega arith
-
-pub job_step_in : (d : DeckView) → IsTrue (is_well_formed d) → job_step d < length d.units
-job_step_in d h = first_if _ (position_or_len is_task_card d.units) (length d.units) refl (some_where is_task_card d.units (conditions d h).task)
-
 -- Units
-
--- each unit is as before its birth
-all_unborn : (cards : List UnitCard) (v : ℕ) → unit_at v (map (λ unit. unborn_unit) cards ++ unborn_unit ∷ []) ≡ unborn_unit
-all_unborn [] zero = refl
-all_unborn [] (suc v) = refl
-all_unborn (card ∷ cards) zero = refl
-all_unborn (card ∷ cards) (suc v) = all_unborn cards v
-
-all_dormant : (cards : List UnitCard) (v : ℕ) → life_of v (map (λ unit. Dormant) cards) ≡ Dormant
-all_dormant [] v = refl
-all_dormant (card ∷ cards) zero = refl
-all_dormant (card ∷ cards) (suc v) = all_dormant cards v
 
 none_born : (cards : List UnitCard) → born_units (map (λ unit. Dormant) cards) ≡ 0
 none_born [] = refl
@@ -68,27 +42,19 @@ unit_if : (m v : ℕ) (life : Life) (unit : UnitOfWork) → life ≡ Dormant →
 unit_if m v life unit e f =
     subst (λ (x : Life). IsUnitSound m 0 1 v x unit) (sym e) (subst (λ (x : UnitOfWork). IsUnitSound m 0 1 v Dormant x) (sym f) (unit_before m v))
 
-length_units : (cards : List UnitCard) → length (map (λ card. unborn_unit) cards ++ unborn_unit ∷ []) ≡ length cards + 1
-length_units [] = refl
-length_units (card ∷ cards) = omega (arith, length_units cards)
-
-length_lives : (cards : List UnitCard) → length (map (λ card. Dormant) cards) ≡ length cards
-length_lives [] = refl
-length_lives (card ∷ cards) = omega (arith, length_lives cards)
-
 -- one of them is born
 first_born : (d : DeckView) (job prog : ℕ) → job < length d.units
     → AreUnits d 0 (on_unit job (at_birth 0 prog []) (map (λ card. unborn_unit) d.units ++ unborn_unit ∷ [])) (lives_at_start d.units job)
 first_born d job prog lt =
     let units = map (λ (card : UnitCard). unborn_unit) d.units ++ unborn_unit ∷ [] in
     let lives = map (λ (card : UnitCard). Dormant) d.units in
-    let inside : job < length lives = omega (arith, length_lives d.units) in
-    let there : job < length units = omega (arith, length_units d.units) in
+    let inside : job < length lives = omega (arith, length-dormant d.units) in
+    let there : job < length units = omega (arith, length-unborn d.units) in
     let dormant : is_dormant (life_of job lives) ≡ true = rw (all_dormant d.units job) refl in
     let one : born_units (lives_at_start d.units job) ≡ 1 = omega (arith, counted_birth None lives job inside dormant, none_born d.units) in
     record {
-      units_len = length-set units job _ ∙ length_units d.units;
-      lives_len = length-set lives job (Lives None) ∙ length_lives d.units;
+      units_len = length-set units job _ ∙ length-unborn d.units;
+      lives_len = length-set lives job (Lives None) ∙ length-dormant d.units;
       each = rw one
           (both_each_set (IsUnitSound (length d.units) 0 1) Dormant unborn_unit lives units job (Lives None) _ inside there
           (λ v. unit_if (length d.units) v (life_of v lives) (unit_at v units) (all_dormant d.units v) (all_unborn d.units v))

@@ -2,7 +2,7 @@
 use Rattle.std.proofs.Common.{◌≡◌, ℕ, ◌+◌, ◌<◌, ◌≤◌, Bool, true, false, ◌&&◌, List, [], length, sym, ap, ◌∙◌, arith}
 use Rattle.std.specs.Prelude.{if◌then◌else◌, is_none}
 use Rattle.rtm_model.specs.declared.abort.Abort.{Abort}
-use Rattle.rtm_model.specs.Soundness.{ArePending, OutermostQuiet}
+use Rattle.rtm_model.specs.inner.Soundness.{ArePending, OutermostQuiet}
 use Rattle.rtm_model.specs.Tasks.{Dormant, HasEnded, Life, Lives, is_dormant, is_living}
 use Rattle.rtm_model.specs.World.{Core, UnitOfWork, unborn_unit}
 use Rattle.rtm_law_sound_region.proofs.Pending.{pending_later}

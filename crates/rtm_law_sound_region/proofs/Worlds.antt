@@ -9,10 +9,12 @@ use Rattle.rtm_deck_items.specs.declared.deck.Command.{Command}
 use Rattle.rtm_model.specs.declared.abort.Abort.{Abort}
 use Rattle.rtm_model.specs.declared.error_record.ErrorRecord.{ErrorRecord}
 use Rattle.rtm_model.specs.declared.reg.Reg.{Reg}
-use Rattle.rtm_model.specs.Births.{after_arrival, after_attach, after_done, after_purge, block_birth, cancel_abort, cause_of, count_arrival, memory_end_after, new_estai, post_related, post_step, post_to, srb_abort, step_abort, with_unit, without_living}
+use Rattle.rtm_model.specs.Births.{block_birth, new_estai}
+use Rattle.rtm_model.specs.Posts.{cancel_abort, post_related, post_step, post_to, srb_abort, step_abort}
+use Rattle.rtm_model.specs.Advance.{after_arrival, after_attach, after_done, after_purge, cause_of, count_arrival, memory_end_after, with_unit, without_living}
 use Rattle.rtm_model.specs.Chains.{inherited_estais}
 use Rattle.rtm_model.specs.Surroundings.{is_late}
-use Rattle.rtm_model.specs.Soundness.{IsRecord, born_units}
+use Rattle.rtm_model.specs.inner.Soundness.{IsRecord, born_units}
 use Rattle.rtm_model.specs.Tasks.{Life, Tree, is_dormant, life_of}
 use Rattle.rtm_model.specs.World.{Beginning, Core, UnitOfWork, World, core_at, lives_in, related_task, unit_at}
 use Rattle.rtm_law_sound_region.proofs.Aborts.{cancel_posted, srb_posted, step_posted}

@@ -10,13 +10,14 @@ use Rattle.rtm_model.specs.declared.error_record.ErrorRecord.{ErrorRecord}
 use Rattle.rtm_model.specs.declared.reg.Kind.{Kind}
 use Rattle.rtm_model.specs.declared.reg.Kind.TheVariants.{Estae, Estai, Frr}
 use Rattle.rtm_model.specs.declared.reg.Reg.{Reg}
-use Rattle.rtm_model.specs.Applies.{CanEnter, CanMake, IsMark}
-use Rattle.rtm_model.specs.Births.{routine_born_at, routine_named}
+use Rattle.rtm_model.specs.inner.Applies.{CanEnter, CanMake, IsMark}
+use Rattle.rtm_model.specs.Limits.{deepest, most_brackets}
+use Rattle.rtm_model.specs.OwnChange.{routine_born_at, routine_named}
 use Rattle.rtm_model.specs.Chains.{is_admitted, is_of_depth, newest_of, next_estae, next_estai}
 use Rattle.rtm_model.specs.Levels.{Bracket, current, depth_in, error_in, is_manager, next_estai_at, next_frr}
-use Rattle.rtm_model.specs.NextEntry.{eligible_routine, handling_of}
+use Rattle.rtm_model.specs.NextEntry.{eligible_routine, enter_of, handling_of, is_entered_bare}
 use Rattle.rtm_model.specs.Record.{mark_of, value_or}
-use Rattle.rtm_model.specs.Soundness.{AreNested, IsCoreSound, IsRecord, IsRoutine, StandsIn, stands}
+use Rattle.rtm_model.specs.inner.Soundness.{AreNested, IsCoreSound, IsRecord, IsRoutine, StandsIn, stands}
 use Rattle.rtm_model.specs.World.{Core, World, core_at}
 use Rattle.rtm_law_sound_units.proofs.Lists.{all_found}
 use Rattle.rtm_model.proofs.Lists.{both_true}
@@ -54,26 +55,26 @@ abbrev pub Entered : DeckView → Core → Kind → ℕ → Reg → Type 0
 Entered d c kind born routine = (routine.kind ≡ kind) × (routine.born ≡ born) × CanEnter c (is_manager kind) routine.prog (length d.programs)
 
 by_birth : (d : DeckView) (c : Core) (kind : Kind) (born : ℕ) (o : Option Reg) → IsSome o → IfSome o (λ reg. IsRoutine d kind reg × ((reg.born == born) ≡ true))
-    → length c.levels < 16 → is_some (error_in c.levels) ≡ not (is_manager kind) → IsSomeAnd o (Entered d c kind born)
+    → length c.levels < most_brackets → is_some (error_in c.levels) ≡ not (is_manager kind) → IsSomeAnd o (Entered d c kind born)
 by_birth d c kind born None there h room cause = absurd cc
 by_birth d c kind born (Some reg) there h room cause = (h.0.kind_is, eqb-true reg.born born h.1, record { shallow = room; cause = cause; prog_in = h.0.prog })
 
 in_chain : (d : DeckView) (c : Core) (kind : Kind) (born : ℕ) (regs : List Reg) → AllByRecursion (IsRoutine d kind) regs → IsSome (routine_born_at born regs)
-    → length c.levels < 16 → is_some (error_in c.levels) ≡ not (is_manager kind) → IsSomeAnd (routine_born_at born regs) (Entered d c kind born)
+    → length c.levels < most_brackets → is_some (error_in c.levels) ≡ not (is_manager kind) → IsSomeAnd (routine_born_at born regs) (Entered d c kind born)
 in_chain d c kind born regs all there room cause = by_birth d c kind born (routine_born_at born regs) there (all_found (IsRoutine d kind) (λ reg. reg.born == born) regs all) room cause
 
 -- a routine that is eligible for an error
 abbrev pub CanStart : DeckView → World → ℕ → ErrorRecord → Reg → Type 0
-CanStart d w u r reg = CanMake d w u (whats.Enter reg.kind reg.born (mark_of r))
+CanStart d w u r reg = CanMake d w u (enter_of d.sdwa r reg)
 
 starts : (d : DeckView) (w : World) (u : ℕ) (r : ErrorRecord) (kind : Kind) (reg : Reg) → reg.kind ≡ kind → IsMark (mark_of r)
     → IsSomeAnd (routine_named kind reg.born w.managers (core_at u w)) (Entered d (core_at u w) kind reg.born) → CanStart d w u r reg
-starts d w u r kind reg e m h = subst (λ (k : Kind). CanMake d w u (whats.Enter k reg.born (mark_of r))) (sym e) (h, m)
+starts d w u r kind reg e m h = subst (λ (k : Kind). CanMake d w u (whats.Enter k reg.born (mark_of r) (is_entered_bare d.sdwa reg.kind))) (sym e) (h, m)
 
 -- of a chain whose routines are found by a test that holds where there is room for a bracket
 chain_starts : (d : DeckView) (w : World) (u : ℕ) (r : ErrorRecord) (kind : Kind) (p : Reg → Bool) (regs : List Reg) → AllByRecursion (IsRoutine d kind) regs → IsMark (mark_of r)
     → is_some (error_in (Core.levels (core_at u w))) ≡ not (is_manager kind)
-    → ((reg : Reg) → IsRoutine d kind reg → p reg ≡ true → length (Core.levels (core_at u w)) < 16)
+    → ((reg : Reg) → IsRoutine d kind reg → p reg ≡ true → length (Core.levels (core_at u w)) < most_brackets)
     → ((reg : Reg) → IsSome (routine_born_at reg.born regs) → IsSomeAnd (routine_born_at reg.born regs) (Entered d (core_at u w) kind reg.born) → IsSomeAnd (routine_named kind reg.born w.managers (core_at u w)) (Entered d (core_at u w) kind reg.born))
     → IfSome (find p regs) (CanStart d w u r)
 chain_starts d w u r kind p regs all m cause room named =
@@ -93,7 +94,7 @@ outermost_only : (P : Reg → Type 0) (b : Bool) (o : Option Reg) → (b ≡ tru
 outermost_only P true o h = h refl
 outermost_only P false o h = tt
 
-within : (levels depth : ℕ) → depth < 15 → depth ≡ levels - 1 → levels < 16
+within : (levels depth : ℕ) → depth < deepest → depth ≡ levels - 1 → levels < most_brackets
 within levels depth h e = omega arith
 
 eligible_starts : (d : DeckView) (n : ℕ) (w : World) (u : ℕ) (r : ErrorRecord) → IsCoreSound d n (core_at u w) → IsMark (mark_of r) → is_some (error_in (Core.levels (core_at u w))) ≡ true
@@ -138,7 +139,7 @@ can_fail d w u own h e = record {
 }
 
 handled_by : (d : DeckView) (n : ℕ) (w : World) (u : ℕ) (r : ErrorRecord) → IsCoreSound d n (core_at u w) → IsRecord r → (o : Option Reg) → IfSome o (CanStart d w u r)
-    → (own : Option Reg) → current (Core.levels (core_at u w)) ≡ own → (length (Core.levels (core_at u w)) ≤ 1 → stands w u ≡ true) → CanMake d w u (handling_of r o own)
+    → (own : Option Reg) → current (Core.levels (core_at u w)) ≡ own → (length (Core.levels (core_at u w)) ≤ 1 → stands w u ≡ true) → CanMake d w u (handling_of d.sdwa r o own)
 handled_by d n w u r s h (Some reg) start own e lives = start
 handled_by d n w u r s h None start (Some own) e lives = can_fail d w u own s.nested e
 handled_by d n w u r s h None start None e lives =
@@ -147,7 +148,7 @@ handled_by d n w u r s h None start None e lives =
 
 -- an open error, of a unit that stands where it is open in the outermost bracket
 pub can_handle : (d : DeckView) (n : ℕ) (w : World) (u : ℕ) (r : ErrorRecord) → IsCoreSound d n (core_at u w) → error_in (Core.levels (core_at u w)) ≡ Some r → IsRecord r
-    → (length (Core.levels (core_at u w)) ≤ 1 → stands w u ≡ true) → CanMake d w u (handling_of r (eligible_routine (core_at u w) r) (current (Core.levels (core_at u w))))
+    → (length (Core.levels (core_at u w)) ≤ 1 → stands w u ≡ true) → CanMake d w u (handling_of d.sdwa r (eligible_routine (core_at u w) r) (current (Core.levels (core_at u w))))
 can_handle d n w u r s erring h lives =
     handled_by d n w u r s h (eligible_routine (core_at u w) r) (eligible_starts d n w u r s (record { code = h.code; reason = h.reason }) (ap (λ (o : Option ErrorRecord). is_some o) erring))
     (current (Core.levels (core_at u w))) refl lives

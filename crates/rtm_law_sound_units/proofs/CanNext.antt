@@ -4,6 +4,7 @@ use Rattle.std.specs.Prelude.{IfSome, IsSome, IsSomeAnd, IsTrue, find, fold, if�
 use Rattle.std.specs.List.{AllByRecursion}
 use Rattle.std.specs.Option.{option_and_then, option_map, option_map_or, option_or}
 use Rattle.std.proofs.lemmas.Bool.{eqb-false, eqb-true}
+use Rattle.std.proofs.lemmas.Option.{slice_get_within}
 use Rattle.std.proofs.lemmas.List.Quantifiers.{position-Some}
 use Rattle.rtm_codes.specs.declared.code.Code.{Code}
 use Rattle.rtm_codes.specs.Code.{IsInRange}
@@ -30,7 +31,8 @@ use Rattle.rtm_model.specs.declared.outcome.Outcome.TheVariants as outcomes
 use Rattle.rtm_model.specs.declared.reg.Kind.{Kind}
 use Rattle.rtm_model.specs.declared.reg.Kind.TheVariants.{Mgr}
 use Rattle.rtm_model.specs.declared.reg.Reg.{Reg}
-use Rattle.rtm_model.specs.Applies.{CanApply, CanEnter, CanMake, RetriesAt, StandsAt}
+use Rattle.rtm_model.specs.inner.Applies.{CanApply, CanEnter, CanMake, RetriesAt, StandsAt}
+use Rattle.rtm_model.specs.Limits.{most_brackets}
 use Rattle.rtm_model.specs.Aborts.{first_abort}
 use Rattle.rtm_model.specs.Arrivals.{arrival, arrival_entry, arrival_fate, arrival_of, goes_on, is_cancellable, is_due, is_in_turn}
 use Rattle.rtm_model.specs.Births.{manager_routine}
@@ -39,12 +41,12 @@ use Rattle.rtm_model.specs.Cards.{outcome}
 use Rattle.rtm_model.specs.Ending.{Holdings, first_by_class, holdings_of, is_of_task, newer_holding, newest_held, newest_of_all, next_manager, next_release}
 use Rattle.rtm_model.specs.Legal.{MayFollow}
 use Rattle.rtm_model.specs.declared.entry.Class.TheVariants.{Cancel}
-use Rattle.rtm_model.proofs.Lists.{below_length, both_true}
+use Rattle.rtm_model.proofs.Lists.{both_true}
 use Rattle.rtm_model.specs.Levels.{Bracket, current, depth_in, error_in, record_in, verdict_of_routine}
 use Rattle.rtm_model.specs.NextEntry.{card_entry, card_entry_at, card_entry_by, done_of, first_case, ending_or_card, handling_of, eligible_routine, interruptible, is_outermost, land_of, landed_record, next_landing, leave_of, manager_or, master_act, next, next_master, next_of_master, next_of_unit, next_unit, normal_end, release_or, retry_prog, last_return, unit_act, with_subtasks}
 use Rattle.rtm_model.specs.Surroundings.{fate_in, surroundings, surroundings_at, whose}
-use Rattle.rtm_model.specs.Record.{mark_of, retry_place, verdict, verdict_by}
-use Rattle.rtm_model.specs.Soundness.{AreHeld, AreHoldings, IsCoreSound, IsHolding, IsManager, IsPlace, IsRecord, IsSound, OutermostQuiet, stands}
+use Rattle.rtm_model.specs.Record.{mark_of, retry_place, verdict_by}
+use Rattle.rtm_model.specs.inner.Soundness.{AreHeld, AreHoldings, IsCoreSound, IsHolding, IsManager, IsPlace, IsRecord, IsSound, OutermostQuiet, stands}
 use Rattle.rtm_model.specs.Tasks.{Life, Tree, is_living, life_of}
 use Rattle.rtm_model.specs.Tasks.Life.{Dormant}
 use Rattle.rtm_model.specs.World.{Beginning, Core, UnitOfWork, World, core_at, lives_in, master, unit_at}
@@ -143,7 +145,7 @@ manage_by : (d : DeckView) (w : World) (u : ℕ) (code : Code) (rest : What) →
 manage_by d w u code rest h can None there = can
 manage_by d w u code rest h can (Some m) there = (there, record { code = h; reason = tt })
 
-one_level : (levels : ℕ) → levels - 1 ≡ 0 → levels < 16
+one_level : (levels : ℕ) → levels - 1 ≡ 0 → levels < most_brackets
 one_level levels e = omega arith
 
 can_manage : (d : DeckView) (n : ℕ) (w : World) (u : ℕ) (code : Code) (task : Option ℕ) (rest : What) → IsSound d n w → IsInRange code → is_outermost (Core.levels (core_at u w)) ≡ true
@@ -267,14 +269,14 @@ can_land d w u lives none =
     (λ free. land_by d w u (first_abort (UnitOfWork.pending (unit_at u w.units))) refl (both_are (lives_in w u) (Core.begun (core_at u w)) lives (interrupted (Core.begun (core_at u w)) _ free)) none)
 
 first_by : (d : DeckView) (w : World) (u : ℕ) (r : Option ErrorRecord) (abort : Option Abort) (rest : Option What) → error_in (Core.levels (core_at u w)) ≡ r
-    → IfSome r (λ r. CanMake d w u (handling_of r (eligible_routine (core_at u w) r) (current (Core.levels (core_at u w)))))
-    → (r ≡ None → IfSome abort (λ abort. CanMake d w u (land_of abort))) → (r ≡ None → CanOption d w u rest) → CanOption d w u (first_case (core_at u w) r abort rest)
+    → IfSome r (λ r. CanMake d w u (handling_of d.sdwa r (eligible_routine (core_at u w) r) (current (Core.levels (core_at u w)))))
+    → (r ≡ None → IfSome abort (λ abort. CanMake d w u (land_of abort))) → (r ≡ None → CanOption d w u rest) → CanOption d w u (first_case d.sdwa (core_at u w) r abort rest)
 first_by d w u (Some r) abort rest e handles lands goes = handles
 first_by d w u None (Some abort) rest e handles lands goes = lands refl
 first_by d w u None None rest e handles lands goes = goes refl
 
 handles_by : (d : DeckView) (n : ℕ) (w : World) (u : ℕ) (r : Option ErrorRecord) → error_in (Core.levels (core_at u w)) ≡ r → IsSound d n w → (IsSome r → length (Core.levels (core_at u w)) ≤ 1 → stands w u ≡ true)
-    → IfSome r (λ r. CanMake d w u (handling_of r (eligible_routine (core_at u w) r) (current (Core.levels (core_at u w)))))
+    → IfSome r (λ r. CanMake d w u (handling_of d.sdwa r (eligible_routine (core_at u w) r) (current (Core.levels (core_at u w)))))
 handles_by d n w u None e s lives = tt
 handles_by d n w u (Some r) e s lives =
     can_handle d n w u r (s.cores u) e (subst (λ (o : Option ErrorRecord). IfSome o IsRecord) e (open_record n (Core.levels (core_at u w)) (levels_of d n (core_at u w) (s.cores u)))) (lives refl)
@@ -394,7 +396,7 @@ arrives_by d n w cmd quiet (Some command) e s =
     let lives = both_true (lives_in w command.target) (is_none (Core.begun (core_at command.target w))) stood in
     record {
       unit = omega (arith, living_below (Tree.lives w.tree) command.target lives.0, s.lives_len);
-      what = (stood, below_length d.commands cmd command e);
+      what = (stood, slice_get_within d.commands cmd command e);
     })
 
 pub arrival_applies : (d : DeckView) (n : ℕ) (w : World) (cmd : ℕ) (e : Entry) → IsSound d n w → arrival d w n cmd ≡ Some e → CanApply d w e
@@ -402,16 +404,7 @@ arrival_applies d n w cmd e s is = subst (λ (o : Option Entry). IfSome o (CanAp
 
 follows_by : (d : DeckView) (n : ℕ) (w : World) (e : Entry) (what : What) → e.what ≡ what → IsTrue (is_well_formed d) → IsSound d n w → MayFollow d w n e what → CanApply d w e
 follows_by d n w e (whats.Arrive cmd _) is f s h = arrival_applies d n w cmd e s h
-follows_by d n w e (whats.Exec at rc) is f s h = next_applies d n w e f s (h ∙ ap (λ (x : What). Some x) (sym is))
-follows_by d n w e (whats.Error at mark) is f s h = next_applies d n w e f s (h ∙ ap (λ (x : What). Some x) (sym is))
-follows_by d n w e (whats.Land class from mark) is f s h = next_applies d n w e f s (h ∙ ap (λ (x : What). Some x) (sym is))
-follows_by d n w e (whats.Enter kind reg mark) is f s h = next_applies d n w e f s (h ∙ ap (λ (x : What). Some x) (sym is))
-follows_by d n w e (whats.Leave kind reg verdict logrec dump) is f s h = next_applies d n w e f s (h ∙ ap (λ (x : What). Some x) (sym is))
-follows_by d n w e (whats.Begin code dump) is f s h = next_applies d n w e f s (h ∙ ap (λ (x : What). Some x) (sym is))
-follows_by d n w e (whats.Release class id owner) is f s h = next_applies d n w e f s (h ∙ ap (λ (x : What). Some x) (sym is))
-follows_by d n w e (whats.Done code to_task to_step) is f s h = next_applies d n w e f s (h ∙ ap (λ (x : What). Some x) (sym is))
-follows_by d n w e (whats.Purge unit) is f s h = next_applies d n w e f s (h ∙ ap (λ (x : What). Some x) (sym is))
-follows_by d n w e whats.MemEnd is f s h = next_applies d n w e f s (h ∙ ap (λ (x : What). Some x) (sym is))
+follows_by d n w e what is f s h = next_applies d n w e f s (h ∙ ap (λ (x : What). Some x) (sym is))
 
 -- whatever may follow can be applied
 pub follows_applies : (d : DeckView) (n : ℕ) (w : World) (e : Entry) → IsTrue (is_well_formed d) → IsSound d n w → MayFollow d w n e e.what → CanApply d w e

@@ -4,6 +4,7 @@ use Rattle.std.specs.Prelude.{IsTrue, if◌then◌else◌, is_some, not, slice_g
 use Rattle.std.specs.List.{AllByRecursion, list_all}
 use Rattle.std.specs.Option.{option_map_or}
 use Rattle.std.proofs.lemmas.Bool.{eqb-false, eqb-true, ltb-true}
+use Rattle.std.proofs.lemmas.Option.{slice_get_within}
 use Rattle.rtm_deck_items.specs.declared.deck.Command.{Command}
 use Rattle.rtm_deck_items.specs.declared.deck.Line.{Line}
 use Rattle.rtm_deck_items.specs.declared.deck.Unit.{Unit as UnitCard}
@@ -21,22 +22,26 @@ use Rattle.rtm_model.specs.declared.entry.What.{What}
 use Rattle.rtm_model.specs.declared.entry.What.TheVariants as whats
 use Rattle.rtm_model.specs.declared.error_record.ErrorRecord.{ErrorRecord}
 use Rattle.rtm_model.specs.declared.reg.Reg.{Reg}
-use Rattle.rtm_model.specs.Aborts.{first_abort}
-use Rattle.rtm_model.specs.Applies.{CanExecute, StandsAt}
-use Rattle.rtm_model.specs.Births.{after_arrival, after_attach, beyond_card, block_birth, new_estai, own_card, own_change, own_entry, place_after, post_related, post_step, post_to, step_abort, srb_abort, detach_abort, abterm_abort, cancel_abort, with_posted, with_unit}
+use Rattle.rtm_model.specs.inner.Applies.{CanExecute, StandsAt}
+use Rattle.rtm_model.specs.Births.{block_birth, new_estai}
+use Rattle.rtm_model.specs.Posts.{post_related, post_step, post_to, step_abort, srb_abort, detach_abort, abterm_abort, cancel_abort, with_posted}
+use Rattle.rtm_model.specs.OwnChange.{own_card, own_change, own_entry, place_after}
+use Rattle.rtm_model.specs.Advance.{after_arrival, after_attach, beyond_card, with_unit}
 use Rattle.rtm_model.specs.Blocks.{newest_bracket, place_in}
 use Rattle.rtm_model.specs.Chains.{inherited_estais}
 use Rattle.rtm_model.specs.Surroundings.{is_late}
-use Rattle.rtm_model.specs.Soundness.{IsBracket, IsCoreSound, IsPlace, IsSound}
+use Rattle.rtm_model.specs.inner.Soundness.{IsBracket, IsCoreSound, IsPlace, IsSound}
 use Rattle.rtm_model.specs.Tasks.{Tree, is_dormant, life_of}
 use Rattle.rtm_model.specs.World.{Core, UnitOfWork, World, at_birth, core_at, on_unit, unborn_unit, unit_at}
-use Rattle.rtm_model.proofs.Lists.{at_from_list_all, below_length, both_true}
+use Rattle.rtm_model.proofs.Lists.{at_from_list_all, both_true}
+use Rattle.rtm_model.proofs.Units.{unit_there}
+pub use Rattle.rtm_model.proofs.Cards.{card_estais}
 use Rattle.rtm_law_sound_units.proofs.CardKeeps.{CanCard, card_kept}
 use Rattle.rtm_law_sound_units.proofs.EntryKeeps.{born_sound}
 use Rattle.rtm_law_sound_units.proofs.Parts.{AreEstais, estais_later, estais_of, later}
 use Rattle.rtm_law_sound_units.proofs.Places.{after_is_place, card_may_stand}
 use Rattle.rtm_law_sound_units.proofs.RequestBlocks.{opened}
-use Rattle.rtm_law_sound_units.proofs.Units.{EachUnit, on_each, other_unit}
+use Rattle.rtm_law_sound_units.proofs.Units.{EachUnit, on_each}
 
 -- a unit's own control blocks are sound
 abbrev pub HasSoundCore : DeckView → ℕ → UnitOfWork → Type 0
@@ -79,7 +84,7 @@ program_at d h u p (Some card) e there =
 
 pub in_units : (d : DeckView) (u : ℕ) (p : UnitCard → Bool) (o : Option UnitCard) → slice_get d.units u ≡ o → IsTrue (option_map_or p o false) → u < length d.units
 in_units d u p None e there = absurd cc
-in_units d u p (Some card) e there = below_length d.units u card e
+in_units d u p (Some card) e there = slice_get_within d.units u card e
 
 -- a unit that is born
 own_routine : (d : DeckView) (n : ℕ) (term : Bool) (o : Option ℕ) (estais : List Reg) → IsTrue (is_program_or_none d o) → AreEstais d n estais → AreEstais d (n + 1) (inherited_estais (new_estai n term o) estais)
@@ -104,7 +109,7 @@ pub still_unborn : (u unit : ℕ) (f : UnitOfWork → UnitOfWork) (units : List 
 still_unborn u unit f units true e some fresh =
     let same : unit ≡ u = eqb-true unit u e in
     absurd (none (subst (λ (x : UnitOfWork). 1 ≤ length (newest_bracket (Core.blocks (UnitOfWork.core x)))) (subst (λ (k : ℕ). unit_at k units ≡ unborn_unit) same fresh) some))
-still_unborn u unit f units false e some fresh = rw (other_unit u unit f units (eqb-false unit u e)) fresh
+still_unborn u unit f units false e some fresh = rw (unit_there u unit f units (eqb-false unit u e)) fresh
 
 -- a card that is executed, beyond its own unit
 record Executes (d : DeckView) (n : ℕ) (w : World) (u rc : ℕ) (op : Op) (lines : List Line) (after : World) : Type 0 where
@@ -153,7 +158,7 @@ pub all_later : (d : DeckView) (n : ℕ) (w : World) → EachUnit (HasSoundCore 
 all_later d n w h v = later d n (core_at v w) (h v)
 
 -- an entry whose change of its own unit keeps that one sound
-pub own_cores : (d : DeckView) (n : ℕ) (w : World) (u : ℕ) (what : What) → EachUnit (HasSoundCore d n) w.units → IsCoreSound d (n + 1) (own_entry d n w.managers (first_abort (UnitOfWork.pending (unit_at u w.units))) what (core_at u w))
+pub own_cores : (d : DeckView) (n : ℕ) (w : World) (u : ℕ) (what : What) → EachUnit (HasSoundCore d n) w.units → IsCoreSound d (n + 1) (own_entry d n w.managers (UnitOfWork.pending (unit_at u w.units)) what (core_at u w))
     → EachUnit (HasSoundCore d (n + 1)) (World.units (own_world d w n u what))
 own_cores d n w u what h new = on_each (HasSoundCore d (n + 1)) w.units u (own_change d n w.managers what) (all_later d n w h) new
 
@@ -174,20 +179,6 @@ exec_own d n w u rc at f s here can =
     (λ other. after_is_place d at rc p other) (own_can w u rc (op_at d at.prog at.op) can)
 
 -- a unit that isn't the card's stays unborn
-pub card_estais : (n : ℕ) (place : Place) (op : Op) (c : Core) → Core.estais (own_card n place op c) ≡ c.estais
-card_estais n place (ops.Link prog) c = refl
-card_estais n place (ops.Xctl prog) c = refl
-card_estais n place ops.Return c = refl
-card_estais n place (ops.EstaexCt prog term cancel xctl) c = refl
-card_estais n place (ops.EstaexOv prog term cancel xctl) c = refl
-card_estais n place ops.EstaexZero c = refl
-card_estais n place (ops.FrrAdd prog) c = refl
-card_estais n place ops.FrrDelete c = refl
-card_estais n place (ops.FrrReplace prog) c = refl
-card_estais n place ops.FrrPurge c = refl
-card_estais n place (ops.SetRp setrp) c = refl
-card_estais n place _ c = refl
-
 estais_after : (d : DeckView) (n : ℕ) (w : World) (u rc : ℕ) (at : Place) → IsSound d n w → AreEstais d n (Core.estais (core_at u (own_world d w n u (whats.Exec at rc))))
 estais_after d n w u rc at s =
     on_each (HasSoundEstais d n) w.units u (own_change d n w.managers (whats.Exec at rc)) (λ v. estais_of d n (core_at v w) (s.cores v))

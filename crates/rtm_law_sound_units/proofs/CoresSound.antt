@@ -27,20 +27,25 @@ use Rattle.rtm_model.specs.declared.mark.Mark.{Mark}
 use Rattle.rtm_model.specs.declared.reg.Kind.{Kind}
 use Rattle.rtm_model.specs.declared.reg.Kind.TheVariants.{Estae, Estai, Frr, Mgr}
 use Rattle.rtm_model.specs.declared.reg.Reg.{Reg}
-use Rattle.rtm_model.specs.Aborts.{first_abort}
-use Rattle.rtm_model.specs.Applies.{CanApply, CanEnter, CanMake}
-use Rattle.rtm_model.specs.Births.{advance, beyond, routine_born_at, after_done, with_routine_entered, error_record, manager_routine, own_entry, post_related, asks_dump, asks_step, after_purge, purged_core, routine_named, mother_abort, with_landed, cause_of, without_living}
+use Rattle.rtm_model.specs.Aborts.{abort_named, first_abort}
+use Rattle.rtm_model.specs.inner.Applies.{CanApply, CanEnter, CanMake}
+use Rattle.rtm_model.specs.Births.{manager_routine}
+use Rattle.rtm_model.specs.Posts.{post_related, mother_abort}
+use Rattle.rtm_model.specs.OwnChange.{routine_born_at, with_routine_entered, error_record, own_entry, asks_dump, asks_step, routine_named, with_landed}
+use Rattle.rtm_model.specs.Advance.{advance, beyond, after_done, after_purge, purged_core, cause_of, without_living}
 use Rattle.rtm_model.specs.Blocks.{newest_bracket, with_bracket}
 use Rattle.rtm_model.specs.Levels.{depth_in, error_in, is_manager}
 use Rattle.rtm_model.specs.NextEntry.{landed_record}
 use Rattle.rtm_model.specs.Record.{mark_of}
-use Rattle.rtm_model.specs.Soundness.{ArePending, IsAbort, IsCoreSound, IsSound, ManagersFall, RoutinesFall}
+use Rattle.rtm_model.specs.inner.Soundness.{ArePending, IsAbort, IsCoreSound, IsSound, ManagersFall, RoutinesFall}
 use Rattle.rtm_model.specs.Tasks.{Tree}
 use Rattle.rtm_model.specs.World.{Beginning, Core, UnitOfWork, World, at_birth, core_at, lives_in, related_task, start, unborn_unit, unit_at}
+use Rattle.rtm_model.proofs.Landing.{named_first}
 use Rattle.rtm_law_sound_units.proofs.CoresKeep.{HasSoundCore, arrived_cores, exec_cores, own_cores, own_world, program_at, related_cores, step_cores}
 use Rattle.rtm_law_sound_units.proofs.EntryKeeps.{born_sound, ending_kept, entered_kept, error_kept, landed_kept, purged_kept, unborn_sound}
 use Rattle.rtm_law_sound_units.proofs.LeaveKeeps.{left_kept}
-use Rattle.rtm_law_sound_units.proofs.Lists.{all_by, all_found, some_by}
+use Rattle.rtm_model.proofs.Lists.{all_by}
+use Rattle.rtm_law_sound_units.proofs.Lists.{all_found, some_by}
 use Rattle.rtm_law_sound_units.proofs.Parts.{later}
 use Rattle.rtm_law_sound_units.proofs.Places.{first_is_place}
 use Rattle.rtm_law_sound_units.proofs.Records.{card_error}
@@ -78,20 +83,21 @@ named_since d n born Estai managers c f s = found_since n born 0 c.estais s.esta
 named_since d n born Mgr managers c f s = manager_since n born managers f
 
 -- ENTER
-enter_by : (d : DeckView) (n : ℕ) (kind : Kind) (born : ℕ) (o : Option Reg) (c : Core) → IfSome o (λ reg. reg.born < n)
+enter_by : (d : DeckView) (n : ℕ) (kind : Kind) (born : ℕ) (bare : Bool) (o : Option Reg) (c : Core) → IfSome o (λ reg. reg.born < n)
     → IsSomeAnd o (λ routine. (routine.kind ≡ kind) × (routine.born ≡ born) × CanEnter c (is_manager kind) routine.prog (length d.programs))
-    → IsCoreSound d n c → IsCoreSound d (n + 1) (with_routine_entered n o c)
-enter_by d n kind born None c early can s = absurd can
-enter_by d n kind born (Some reg) c early can s =
+    → IsCoreSound d n c → IsCoreSound d (n + 1) (with_routine_entered n bare o c)
+enter_by d n kind born bare None c early can s = absurd can
+enter_by d n kind born bare (Some reg) c early can s =
     let e = can.2 in
-    entered_kept d n reg c e.shallow (subst (λ (k : Kind). is_some (error_in c.levels) ≡ not (is_manager k)) (sym can.0) e.cause) e.prog_in (omega arith) s
+    entered_kept d n reg bare c e.shallow (subst (λ (k : Kind). is_some (error_in c.levels) ≡ not (is_manager k)) (sym can.0) e.cause) e.prog_in (omega arith) s
 
 -- LAND
 land_by : (d : DeckView) (n : ℕ) (class : Class) (from : ℕ) (mark : Mark) (pending : List Abort) (c : Core) → AllByRecursion (IsAbort n) pending
     → IsSomeAnd (first_abort pending) (λ abort. (abort.class ≡ class) × (abort.from ≡ from) × (mark ≡ mark_of (landed_record abort)))
-    → (IsSome c.begun → ⊥) → IsCoreSound d n c → IsCoreSound d n (with_landed (first_abort pending) c)
+    → (IsSome c.begun → ⊥) → IsCoreSound d n c → IsCoreSound d n (with_landed (abort_named class from pending) c)
 land_by d n class from mark [] c each can stands s = absurd can
-land_by d n class from mark (abort ∷ pending) c each can stands s = landed_kept d n n abort c each.0 stands s
+land_by d n class from mark (abort ∷ pending) c each can stands s =
+    subst (λ (o : Option Abort). IsCoreSound d n (with_landed o c)) (sym (named_first class from (λ abort. mark ≡ mark_of (landed_record abort)) (abort ∷ pending) can)) (landed_kept d n n abort c each.0 stands s)
 
 -- a unit that stands hasn't begun to end
 stands_begun : (lives : Bool) (begun : Option Beginning) → (lives && is_none begun) ≡ true → IsSome begun → ⊥
@@ -112,7 +118,7 @@ has_bracket (blocks ∷ outer) h = omega arith
 -- an entry's change of its own unit, but for a card's
 own_kept : (d : DeckView) (n : ℕ) (w : World) (u : ℕ) (what : What) → IsSound d n w → CanMake d w u what
     → ((at : Place) (rc : ℕ) → what ≡ whats.Exec at rc → ⊥)
-    → IsCoreSound d (n + 1) (own_entry d n w.managers (first_abort (UnitOfWork.pending (unit_at u w.units))) what (core_at u w))
+    → IsCoreSound d (n + 1) (own_entry d n w.managers (UnitOfWork.pending (unit_at u w.units)) what (core_at u w))
 own_kept d n w u (whats.Exec at rc) s can other = absurd (other at rc refl)
 own_kept d n w u (whats.Error at mark) s can other =
     let op = op_at d at.prog at.op in
@@ -120,16 +126,12 @@ own_kept d n w u (whats.Error at mark) s can other =
     (λ b. inner_by (length (Core.blocks (core_at u w))) (length (Core.levels (core_at u w))) (lives_in w u) (Core.begun (core_at u w)) (s.blocks u) (has_bracket (Core.blocks (core_at u w)) can.0.some) b) (later d n (core_at u w) (s.cores u))
 own_kept d n w u (whats.Land class from mark) s can other =
     later d n _ (land_by d n class from mark (UnitOfWork.pending (unit_at u w.units)) (core_at u w) (ArePending.each (s.pending u)) can.2 (λ b. stands_begun (lives_in w u) (Core.begun (core_at u w)) can.0 b) (s.cores u))
-own_kept d n w u (whats.Enter kind reg mark) s can other =
-    enter_by d n kind reg (routine_named kind reg w.managers (core_at u w)) (core_at u w) (named_since d n reg kind w.managers (core_at u w) s.managers_fall (s.cores u)) can.0 (s.cores u)
+own_kept d n w u (whats.Enter kind reg mark bare) s can other =
+    enter_by d n kind reg bare (routine_named kind reg w.managers (core_at u w)) (core_at u w) (named_since d n reg kind w.managers (core_at u w) s.managers_fall (s.cores u)) can.0 (s.cores u)
 own_kept d n w u (whats.Leave kind reg verdict logrec dump) s can other =
     left_kept d (n + 1) kind reg verdict (core_at u w) can.inner can.retries (later d n (core_at u w) (s.cores u))
 own_kept d n w u (whats.Begin code dump) s can other = ending_kept d (n + 1) code (core_at u w) can.2 (later d n (core_at u w) (s.cores u))
-own_kept d n w u (whats.Arrive cmd at_target) s can other = later d n (core_at u w) (s.cores u)
-own_kept d n w u (whats.Release class id owner) s can other = later d n (core_at u w) (s.cores u)
-own_kept d n w u (whats.Done code to_task to_step) s can other = later d n (core_at u w) (s.cores u)
-own_kept d n w u (whats.Purge unit) s can other = later d n (core_at u w) (s.cores u)
-own_kept d n w u whats.MemEnd s can other = later d n (core_at u w) (s.cores u)
+own_kept d n w u _ s can other = later d n (core_at u w) (s.cores u)
 
 -- all units after an entry
 abbrev CoresAfter : DeckView → ℕ → World → ℕ → What → Type 0
@@ -145,11 +147,6 @@ ended_cores d n m u code cause w h =
 
 what_cores : (d : DeckView) (n : ℕ) (w : World) (u : ℕ) (what : What) → IsTrue (is_well_formed d) → IsSound d n w → CanMake d w u what → CoresAfter d n w u what
 what_cores d n w u (whats.Exec at rc) f s can = exec_cores d n w u rc at f s can.0 can.1
-what_cores d n w u (whats.Error at mark) f s can = own_cores d n w u (whats.Error at mark) s.cores (own_kept d n w u (whats.Error at mark) s can (λ x y e. cc))
-what_cores d n w u (whats.Land class from mark) f s can = own_cores d n w u (whats.Land class from mark) s.cores (own_kept d n w u (whats.Land class from mark) s can (λ x y e. cc))
-what_cores d n w u (whats.Enter kind reg mark) f s can = own_cores d n w u (whats.Enter kind reg mark) s.cores (own_kept d n w u (whats.Enter kind reg mark) s can (λ x y e. cc))
-what_cores d n w u (whats.Leave kind reg verdict logrec dump) f s can =
-    own_cores d n w u (whats.Leave kind reg verdict logrec dump) s.cores (own_kept d n w u (whats.Leave kind reg verdict logrec dump) s can (λ x y e. cc))
 what_cores d n w u (whats.Arrive cmd at_target) f s can =
     arrived_cores d (n + 1) n u (slice_get d.commands cmd) (own_world d w n u (whats.Arrive cmd at_target))
     (own_cores d n w u (whats.Arrive cmd at_target) s.cores (own_kept d n w u (whats.Arrive cmd at_target) s can (λ x y e. cc)))
@@ -157,14 +154,13 @@ what_cores d n w u (whats.Begin code dump) f s can =
     let after = own_world d w n u (whats.Begin code dump) in
     posted_each (HasSoundCore d (n + 1)) u (mother_abort n) (λ late unit h. h) (unborn_sound d (n + 1)) (Tree.lives w.tree) (World.units after)
     (own_cores d n w u (whats.Begin code dump) s.cores (own_kept d n w u (whats.Begin code dump) s can (λ x y e. cc)))
-what_cores d n w u (whats.Release class id owner) f s can = own_cores d n w u (whats.Release class id owner) s.cores (own_kept d n w u (whats.Release class id owner) s can (λ x y e. cc))
 what_cores d n w u (whats.Done code to_task to_step) f s can =
     let after = own_world d w n u (whats.Done code to_task to_step) in
     ended_cores d (n + 1) n u code (cause_of (Core.begun (core_at u after))) after
     (own_cores d n w u (whats.Done code to_task to_step) s.cores (own_kept d n w u (whats.Done code to_task to_step) s can (λ x y e. cc)))
 what_cores d n w u (whats.Purge unit) f s can =
     purge_cores d (n + 1) unit (own_world d w n u (whats.Purge unit)) (own_cores d n w u (whats.Purge unit) s.cores (own_kept d n w u (whats.Purge unit) s can (λ x y e. cc)))
-what_cores d n w u whats.MemEnd f s can = own_cores d n w u whats.MemEnd s.cores (own_kept d n w u whats.MemEnd s can (λ x y e. cc))
+what_cores d n w u what f s can = own_cores d n w u what s.cores (own_kept d n w u what s can (λ x y e. cc))
 
 -- every unit's own control blocks after an entry that can be applied
 pub cores_kept : (d : DeckView) (n : ℕ) (w : World) (e : Entry) → IsTrue (is_well_formed d) → IsSound d n w → CanApply d w e → (u : ℕ) → IsCoreSound d (n + 1) (core_at u (advance d w n e))

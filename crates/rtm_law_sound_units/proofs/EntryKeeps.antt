@@ -1,5 +1,5 @@
 -- Any entry that can be applied leaves its unit's own control blocks sound.
-use Rattle.std.proofs.Common.{◌≡◌, ℕ, ◌+◌, ◌-◌, ◌<◌, ◌≤◌, List, [], length, Some, refl, sym, subst, ap, arith}
+use Rattle.std.proofs.Common.{◌≡◌, ℕ, ◌+◌, ◌-◌, ◌<◌, ◌≤◌, Bool, List, [], length, Some, refl, sym, subst, ap, arith}
 use Rattle.std.specs.Prelude.{IsSome, is_some, not}
 use Rattle.rtm_codes.specs.declared.code.Code.{Code}
 use Rattle.rtm_codes.specs.Code.{IsInRange}
@@ -8,14 +8,18 @@ use Rattle.rtm_model.specs.declared.abort.Abort.{Abort}
 use Rattle.rtm_model.specs.declared.block.Block.{Block}
 use Rattle.rtm_model.specs.declared.error_record.ErrorRecord.{ErrorRecord}
 use Rattle.rtm_model.specs.declared.reg.Reg.{Reg}
-use Rattle.rtm_model.specs.Births.{after_begin, block_birth, purged_core, with_error, with_landed, with_routine_entered}
+use Rattle.rtm_model.specs.Limits.{most_brackets}
+use Rattle.rtm_model.specs.Births.{block_birth}
+use Rattle.rtm_model.specs.OwnChange.{after_begin, with_error, with_landed, with_routine_entered}
+use Rattle.rtm_model.specs.Advance.{purged_core}
 use Rattle.rtm_model.specs.Blocks.{with_bracket}
 use Rattle.rtm_model.specs.Levels.{after_enter, depth_in, error_in, is_manager, with_open}
 use Rattle.rtm_model.specs.NextEntry.{landed_record}
-use Rattle.rtm_model.specs.Soundness.{HasOwner, IsAbort, IsCoreSound, IsRecord}
+use Rattle.rtm_model.specs.inner.Soundness.{HasOwner, IsAbort, IsCoreSound, IsRecord}
 use Rattle.rtm_model.specs.World.{Core, born_core, unborn_unit, UnitOfWork}
+use Rattle.rtm_model.proofs.Levels.{length_innermost, quiet_entered, quiet_innermost}
 use Rattle.rtm_law_sound_units.proofs.Lists.{all_by2}
-use Rattle.rtm_law_sound_units.proofs.Nesting.{entered_level, innermost_changed, innermost_length, open_record, outermost_level, quiet_entered, quiet_innermost}
+use Rattle.rtm_law_sound_units.proofs.Nesting.{entered_level, innermost_changed, open_record, outermost_level}
 use Rattle.rtm_law_sound_units.proofs.Owners.{owner_opened}
 use Rattle.rtm_law_sound_units.proofs.Parts.{AreEstais, HasChains, brackets_of, chains_of, end_of, estais_of, later, levels_of, made_of}
 use Rattle.rtm_law_sound_units.proofs.Records.{landed_error}
@@ -25,7 +29,7 @@ use Rattle.rtm_law_sound_units.proofs.Routines.{all_shallow, fall_later}
 -- an error is open in the innermost bracket
 pub error_kept : (d : DeckView) (n : ℕ) (r : ErrorRecord) (c : Core) → IsRecord r → (IsSome c.begun → 2 ≤ length c.levels) → IsCoreSound d n c → IsCoreSound d n (with_error r c)
 error_kept d n r c h inner s =
-    let same = innermost_length (with_open (Some r)) c.levels in
+    let same = length_innermost (with_open (Some r)) c.levels in
     made_of d n (with_error r c) (innermost_changed n (Some r) c.levels h (levels_of d n c s)) (brackets_of d n c s)
     (subst (λ (depth : ℕ). HasChains d n depth c.blocks c.frrs c.estaes) (sym (ap (λ (k : ℕ). k - 1) same)) (chains_of d n c s))
     (estais_of d n c s) (record { codes = s.begun; quiet = λ b. quiet_innermost (with_open (Some r)) c.levels (inner b) (s.ending_quiet b) })
@@ -47,15 +51,15 @@ deeper_chain d n k blocks born prog frrs estaes c =
           (λ reg shallow h. owner_opened k born prog blocks reg shallow h) estaes (all_shallow n k estaes c.estaes_are.fall) c.owned;
     }
 
-pub entered_kept : (d : DeckView) (n : ℕ) (reg : Reg) (c : Core) → length c.levels < 16 → is_some (error_in c.levels) ≡ not (is_manager reg.kind) → reg.prog < length d.programs → reg.born < n + 1
-    → IsCoreSound d n c → IsCoreSound d (n + 1) (with_routine_entered n (Some reg) c)
-entered_kept d n reg c room cause prog born s =
+pub entered_kept : (d : DeckView) (n : ℕ) (reg : Reg) (bare : Bool) (c : Core) → length c.levels < most_brackets → is_some (error_in c.levels) ≡ not (is_manager reg.kind) → reg.prog < length d.programs → reg.born < n + 1
+    → IsCoreSound d n c → IsCoreSound d (n + 1) (with_routine_entered n bare (Some reg) c)
+entered_kept d n reg bare c room cause prog born s =
     let t = later d n c s in
-    let one_more : depth_in c.levels + 1 ≡ depth_in (after_enter reg c.levels) = omega (arith, s.levels_some) in
-    made_of d (n + 1) (with_routine_entered n (Some reg) c) (entered_level (n + 1) reg c.levels room cause born (levels_of d (n + 1) c t))
+    let one_more : depth_in c.levels + 1 ≡ depth_in (after_enter reg bare c.levels) = omega (arith, s.levels_some) in
+    made_of d (n + 1) (with_routine_entered n bare (Some reg) c) (entered_level (n + 1) reg bare c.levels room cause born (levels_of d (n + 1) c t))
     (opened d n reg.prog c.blocks prog (brackets_of d n c s))
     (subst (λ (depth : ℕ). HasChains d (n + 1) depth (with_bracket (block_birth n) reg.prog c.blocks) c.frrs c.estaes) one_more (deeper_chain d n (depth_in c.levels) c.blocks (block_birth n) reg.prog c.frrs c.estaes (chains_of d n c s)))
-    (estais_of d (n + 1) c t) (record { codes = t.begun; quiet = λ b. quiet_entered reg c.levels (t.ending_quiet b) })
+    (estais_of d (n + 1) c t) (record { codes = t.begun; quiet = λ b. quiet_entered reg bare c.levels (t.ending_quiet b) })
 
 -- nothing is left of what an end takes away
 no_chains : (d : DeckView) (n depth : ℕ) → HasChains d n depth [] [] []

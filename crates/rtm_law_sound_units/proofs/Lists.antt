@@ -1,14 +1,9 @@
 -- What holds of each element of a list.
-use Rattle.std.proofs.Common.{◌≡◌, ℕ, zero, suc, ◌≤◌, Bool, true, false, cond, List, [], ◌∷◌, length, Option, Some, None, refl, arith, get_or}
+use Rattle.std.proofs.Common.{◌≡◌, ℕ, zero, suc, Bool, true, false, cond, List, [], ◌∷◌, Option, Some, None, refl, get_or}
 use Rattle.std.specs.Prelude.{IfSome, filter, find}
 use Rattle.std.specs.List.{AllByRecursion}
 
--- what holds of each element, by what holds of it
-pub all_by : {X : Type 0} (P Q : X → Type 0) → ((x : X) → P x → Q x) → (xs : List X) → AllByRecursion P xs → AllByRecursion Q xs
-all_by P Q f [] h = tt
-all_by P Q f (x ∷ xs) h = (f x h.0, all_by P Q f xs h.1)
-
--- and by two facts of it
+-- what holds of each element, by two facts of it
 pub all_by2 : {X : Type 0} (P Q R : X → Type 0) → ((x : X) → P x → Q x → R x) → (xs : List X) → AllByRecursion P xs → AllByRecursion Q xs → AllByRecursion R xs
 all_by2 P Q R f [] h i = tt
 all_by2 P Q R f (x ∷ xs) h i = (f x h.0 i.0, all_by2 P Q R f xs h.1 i.1)
@@ -26,9 +21,6 @@ pub all_kept : {X : Type 0} (P Q : X → Type 0) (p : X → Bool) → ((x : X) �
 all_kept P Q p f [] h = tt
 all_kept P Q p f (x ∷ xs) h = kept_if P Q p x (filter p xs) (p x) refl f h.0 (all_kept P Q p f xs h.1)
 
-pub all_filter : {X : Type 0} (P : X → Type 0) (p : X → Bool) (xs : List X) → AllByRecursion P xs → AllByRecursion P (filter p xs)
-all_filter P p xs h = all_kept P P p (λ x here e. here) xs h
-
 found_in : {X : Type 0} (P : X → Type 0) (p : X → Bool) (y : X) (ys : List X) (b : Bool) → p y ≡ b → P y → IfSome (find p ys) (λ x. P x × (p x ≡ true)) → IfSome (cond b (Some y) (find p ys)) (λ x. P x × (p x ≡ true))
 found_in P p y ys true e here more = (here, e)
 found_in P p y ys false e here more = more
@@ -37,14 +29,6 @@ found_in P p y ys false e here more = more
 pub all_found : {X : Type 0} (P : X → Type 0) (p : X → Bool) (xs : List X) → AllByRecursion P xs → IfSome (find p xs) (λ x. P x × (p x ≡ true))
 all_found P p [] h = tt
 all_found P p (x ∷ xs) h = found_in P p x xs (p x) refl h.0 (all_found P p xs h.1)
-
-length_if : {X : Type 0} (b : Bool) (x : X) (ys : List X) (n : ℕ) → length ys ≤ n → length (cond b (x ∷ ys) ys) ≤ suc n
-length_if true x ys n h = omega arith
-length_if false x ys n h = omega arith
-
-pub length-filter-le : {X : Type 0} (p : X → Bool) (xs : List X) → length (filter p xs) ≤ length xs
-length-filter-le p [] = omega arith
-length-filter-le p (x ∷ xs) = length_if (p x) x (filter p xs) (length xs) (length-filter-le p xs)
 
 -- what holds of each element, and of the default, holds at each index
 pub all_at : {X : Type 0} (P : X → Type 0) (xs : List X) (i : ℕ) (d : X) → P d → AllByRecursion P xs → P (get_or xs i d)

@@ -6,7 +6,7 @@ use Rattle.rtm_model.specs.declared.block.Block.{Block}
 use Rattle.rtm_model.specs.declared.block.Place.{Place}
 use Rattle.rtm_model.specs.declared.reg.Reg.{Reg}
 use Rattle.rtm_model.specs.Blocks.{after_return, block_of, cut_to, from_birth, from_first, has_one_block, in_newest_bracket, is_block_of, newest_birth, newest_bracket, with_bracket, with_linked, with_newest_at, with_place, without_bracket, without_newest}
-use Rattle.rtm_model.specs.Soundness.{BlocksFall, BracketsFall, HasOwner}
+use Rattle.rtm_model.specs.inner.Soundness.{BlocksFall, BracketsFall, HasOwner}
 
 -- a request block of that birth is among them
 abbrev pub IsThere : ℕ → List Block → Type 0

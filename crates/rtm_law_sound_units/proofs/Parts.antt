@@ -9,12 +9,13 @@ use Rattle.rtm_model.specs.declared.block.Place.{Place}
 use Rattle.rtm_model.specs.declared.reg.Kind.{Kind}
 use Rattle.rtm_model.specs.declared.reg.Kind.TheVariants.{Estae, Estai, Frr}
 use Rattle.rtm_model.specs.declared.reg.Reg.{Reg}
-use Rattle.rtm_model.specs.Births.{move_to}
+use Rattle.rtm_model.specs.Limits.{most_estaes, most_frrs}
+use Rattle.rtm_model.specs.OwnChange.{move_to}
 use Rattle.rtm_model.specs.Blocks.{with_place}
 use Rattle.rtm_model.specs.Levels.{Bracket, depth_in}
-use Rattle.rtm_model.specs.Soundness.{HasOwner, IsCoreSound, IsPlace, IsRecord, IsRoutine, OutermostQuiet, RoutinesFall}
+use Rattle.rtm_model.specs.inner.Soundness.{HasOwner, IsCoreSound, IsPlace, IsRecord, IsRoutine, OutermostQuiet, RoutinesFall}
 use Rattle.rtm_model.specs.World.{Beginning, Core}
-use Rattle.rtm_law_sound_units.proofs.Lists.{all_by, all_filter, length-filter-le}
+use Rattle.rtm_model.proofs.Lists.{AllByRecursion-filter, all_by, length-filter-le}
 use Rattle.rtm_law_sound_units.proofs.Nesting.{AreLevels, levels_later}
 use Rattle.rtm_law_sound_units.proofs.Owners.{owner_placed}
 use Rattle.rtm_law_sound_units.proofs.RequestBlocks.{AreBrackets, blocks_kept, placed}
@@ -27,8 +28,8 @@ pub record IsChain (d : DeckView) (kind : Kind) (most n depth : ℕ) (regs : Lis
   pub fall : RoutinesFall n depth regs
 
 pub record HasChains (d : DeckView) (n depth : ℕ) (blocks : List (List Block)) (frrs estaes : List Reg) : Type 0 where
-  pub frrs_are : IsChain d Frr 16 n depth frrs
-  pub estaes_are : IsChain d Estae 64 n depth estaes
+  pub frrs_are : IsChain d Frr most_frrs n depth frrs
+  pub estaes_are : IsChain d Estae most_estaes n depth estaes
   pub owned : AllByRecursion (HasOwner depth blocks) estaes
 
 abbrev pub HasBegun : Option Beginning → Type 0
@@ -89,8 +90,8 @@ chain_later d kind most n m depth regs h c = record { few = c.few; each = c.each
 
 pub chains_later : (d : DeckView) (n m depth : ℕ) (blocks : List (List Block)) (frrs estaes : List Reg) → n ≤ m → HasChains d n depth blocks frrs estaes → HasChains d m depth blocks frrs estaes
 chains_later d n m depth blocks frrs estaes h c = record {
-  frrs_are = chain_later d Frr 16 n m depth frrs h c.frrs_are;
-  estaes_are = chain_later d Estae 64 n m depth estaes h c.estaes_are;
+  frrs_are = chain_later d Frr most_frrs n m depth frrs h c.frrs_are;
+  estaes_are = chain_later d Estae most_estaes n m depth estaes h c.estaes_are;
   owned = c.owned;
 }
 
@@ -109,12 +110,12 @@ later d n c s =
 pub chain_filter : (d : DeckView) (kind : Kind) (most n depth : ℕ) (p : Reg → Bool) (regs : List Reg) → IsChain d kind most n depth regs → IsChain d kind most n depth (filter p regs)
 chain_filter d kind most n depth p regs c = record {
   few = omega (arith, length-filter-le p regs, c.few);
-  each = all_filter (IsRoutine d kind) p regs c.each;
+  each = AllByRecursion-filter (IsRoutine d kind) p regs c.each;
   fall = fall_filter p n depth regs c.fall;
 }
 
 pub estais_filter : (d : DeckView) (n : ℕ) (p : Reg → Bool) (regs : List Reg) → AreEstais d n regs → AreEstais d n (filter p regs)
-estais_filter d n p regs e = record { each = all_filter (IsRoutine d Estai) p regs e.each; fall = fall_filter p n 0 regs e.fall }
+estais_filter d n p regs e = record { each = AllByRecursion-filter (IsRoutine d Estai) p regs e.each; fall = fall_filter p n 0 regs e.fall }
 
 -- the innermost bracket's newest request block at another place
 pub chains_placed : (d : DeckView) (n depth : ℕ) (place : Place) (blocks : List (List Block)) (frrs estaes : List Reg) → HasChains d n depth blocks frrs estaes → HasChains d n depth (with_place place blocks) frrs estaes

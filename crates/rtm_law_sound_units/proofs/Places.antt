@@ -1,40 +1,19 @@
 -- Places of a well formed deck: where a card may lead.
-use Rattle.std.proofs.Common.{◌≡◌, ℕ, ◌+◌, ◌-◌, ◌<◌, ◌≤◌, Bool, true, false, ◌&&◌, List, [], ◌∷◌, length, Option, Some, None, refl, sym, subst, ap, arith}
-use Rattle.std.specs.Prelude.{IfSome, IsTrue, position, slice_get, ◌==◌, if◌then◌else◌}
-use Rattle.std.specs.List.{list_all}
+use Rattle.std.proofs.Common.{◌≡◌, ℕ, ◌+◌, ◌-◌, ◌<◌, ◌≤◌, Bool, true, false, List, [], ◌∷◌, length, Option, Some, None, refl, sym, subst, ap, arith}
+use Rattle.std.specs.Prelude.{IfSome, position, slice_get, ◌==◌, if◌then◌else◌}
 use Rattle.std.specs.Option.{option_map, option_map_or}
-use Rattle.std.proofs.lemmas.Option.{slice_get_past}
+use Rattle.std.proofs.lemmas.Option.{slice_get_past, slice_get_within}
 use Rattle.rtm_deck_items.specs.declared.deck.Line.{Line}
 use Rattle.rtm_deck_items.specs.declared.op.Op.{Op}
 use Rattle.rtm_deck_items.specs.declared.op.Op.TheVariants as ops
 use Rattle.rtm_deck_items.specs.View.{ProgramView, DeckView}
 use Rattle.rtm_deck_items.specs.Reading.{carries, label_at, lines_in, lines_of, op_at, op_in}
-use Rattle.rtm_deck_items.specs.WellFormed.{is_label, is_op, is_program_of, is_well_formed, are_distinct, labels_in}
-use Rattle.rtm_deck_operands.specs.Name.{is_padded_name}
-use Rattle.rtm_deck_items.proofs.FormFacts.{conditions}
 use Rattle.rtm_model.specs.declared.block.Place.{Place}
 use Rattle.rtm_model.specs.Blocks.{first_place}
-use Rattle.rtm_model.specs.Births.{label_place, next_place, place_after}
-use Rattle.rtm_model.specs.Soundness.{IsPlace}
-use Rattle.rtm_model.proofs.Lists.{at_from_list_all, below_length, both_true}
+use Rattle.rtm_model.specs.OwnChange.{label_place, next_place, place_after}
+use Rattle.rtm_model.specs.inner.Soundness.{IsPlace}
+pub use Rattle.rtm_model.proofs.SetrpCards.{op_fits as card_may_stand}
 use Rattle.std.proofs.lemmas.List.Quantifiers.{position-Some}
-
-in_lines : (d : DeckView) (all lines : List Line) (op : ℕ) → IsTrue (list_all (λ line. is_label line.label && is_op d all line.op) lines) → (o : Option Line) → slice_get lines (op - 1) ≡ o → IsTrue (is_op d all (op_in o))
-in_lines d all lines op h None e = refl
-in_lines d all lines op h (Some line) e =
-    let fits = at_from_list_all (λ (l : Line). is_label l.label && is_op d all l.op) lines (op - 1) line h e in
-    (both_true (is_label line.label) (is_op d all line.op) fits).1
-
-in_program : (d : DeckView) → IsTrue (list_all (is_program_of d) d.programs) → (prog op : ℕ) (o : Option ProgramView) → slice_get d.programs prog ≡ o → IsTrue (is_op d (lines_in o) (op_in (slice_get (lines_in o) (op - 1))))
-in_program d h prog op None e = refl
-in_program d h prog op (Some p) e =
-    let abc = both_true _ (are_distinct (labels_in p.lines)) (at_from_list_all (is_program_of d) d.programs prog p h e) in
-    let ab = both_true (is_padded_name p.name) (list_all (λ line. is_label line.label && is_op d p.lines line.op) p.lines) abc.0 in
-    in_lines d p.lines p.lines op ab.1 (slice_get p.lines (op - 1)) refl
-
--- what stands at a place may stand there
-pub card_may_stand : (d : DeckView) → IsTrue (is_well_formed d) → (prog op : ℕ) → IsTrue (is_op d (lines_of d prog) (op_at d prog op))
-card_may_stand d f prog op = in_program d (conditions d f).programs prog op (slice_get d.programs prog) refl
 
 -- behind the last card stands a RETURN
 behind : (lines : List Line) (op : ℕ) → length lines < op → op_in (slice_get lines (op - 1)) ≡ ops.Return
@@ -92,7 +71,7 @@ retry_by : (d : DeckView) (prog : ℕ) (o : Option ProgramView) → slice_get d.
 retry_by d prog o e None h = tt
 retry_by d prog None e (Some i) h = absurd (omega arith)
 retry_by d prog (Some program) e (Some i) h = record {
-  prog = below_length d.programs prog program e;
+  prog = slice_get_within d.programs prog program e;
   first = omega arith;
   last = subst (λ (o : Option ProgramView). i + 1 ≤ length (lines_in o) + 1) (sym e) (omega arith);
 }

@@ -1,31 +1,22 @@
 -- The codes and reasons of records and cards stay in range.
-use Rattle.std.proofs.Common.{ℕ, Bool, true, false, ◌&&◌, Option, Some, None}
-use Rattle.std.specs.Prelude.{IfSome, IsTrue, nat_le, not, if◌then◌else◌}
+use Rattle.std.proofs.Common.{ℕ, Bool, true, false, ◌&&◌, List, Option, Some, None}
+use Rattle.std.specs.Prelude.{IfSome, IsTrue, not, if◌then◌else◌}
 use Rattle.std.specs.Option.{option_map, unwrap_or}
-use Rattle.std.proofs.lemmas.Bool.{leb-true, ltb-true}
 use Rattle.rtm_codes.specs.declared.code.Code.{Code}
-use Rattle.rtm_codes.specs.declared.code.Code.TheVariants.{Sys, User}
 use Rattle.rtm_codes.specs.Code.{IsInRange}
 use Rattle.rtm_deck_items.specs.declared.op.Setrp.{Setrp}
 use Rattle.rtm_deck_items.specs.View.{DeckView}
-use Rattle.rtm_deck_items.specs.WellFormed.{gives_some, is_abend_code, is_reason, is_setrp, is_setrp_code}
+use Rattle.rtm_deck_items.specs.WellFormed.{gives_some, is_reason, is_setrp, is_setrp_code}
 use Rattle.rtm_model.specs.declared.abort.Abort.{Abort}
 use Rattle.rtm_model.specs.declared.entry.Verdict.{Verdict}
 use Rattle.rtm_model.specs.declared.entry.Verdict.TheVariants as verdicts
 use Rattle.rtm_model.specs.declared.error_record.ErrorRecord.{ErrorRecord}
 use Rattle.rtm_model.specs.Levels.{Bracket, after_inner_failure, after_verdict}
 use Rattle.rtm_model.specs.NextEntry.{card_record, landed_record}
-use Rattle.rtm_model.specs.Record.{after_failure, after_percolation, after_takeover, setrp_in, value_or}
-use Rattle.rtm_model.specs.Soundness.{IsReason, IsRecord}
+use Rattle.rtm_model.specs.Record.{after_failure, after_percolation, after_takeover, ret15_in, setrp_in, value_or}
+use Rattle.rtm_model.specs.inner.Soundness.{IsReason, IsRecord}
 use Rattle.rtm_model.proofs.Lists.{both_true}
-
-pub abend_code : (code : Code) → IsTrue (is_abend_code code) → IsInRange code
-abend_code (Sys n) h = leb-true _ _ (both_true (nat_le 1 n) (nat_le n 4095) h).1
-abend_code (User n) h = leb-true _ _ h
-
-pub reason_code : (reason : Option ℕ) → IsTrue (is_reason reason) → IsReason reason
-reason_code None h = tt
-reason_code (Some n) h = ltb-true _ _ h
+use Rattle.rtm_model.proofs.Codes.{abend_code, reason_code}
 
 given_code : (o : Option Code) (code : Code) → IsTrue (is_setrp_code o) → IsInRange code → IsInRange (unwrap_or o code)
 given_code None code h g = g
@@ -42,6 +33,10 @@ setrp_record d s h r k =
     let abc = both_true _ (is_reason s.reason) abcd.0 in
     let ab = both_true _ (is_setrp_code s.compcod) abc.0 in
     record { code = given_code s.compcod r.code ab.1 k.code; reason = given_reason s.reason r.reason abc.1 k.reason }
+
+-- RET15
+pub ret15_record : (rc : ℕ) (label : Option (List ℕ)) (r : ErrorRecord) → IsRecord r → IsRecord (ret15_in rc label r)
+ret15_record rc label r k = record { code = k.code; reason = k.reason }
 
 -- a routine has percolated, or failed
 pub percolated_record : (r : ErrorRecord) → IsRecord r → IsRecord (after_percolation r)

@@ -5,8 +5,9 @@ use Rattle.std.specs.List.{AllByRecursion}
 use Rattle.rtm_deck_items.specs.View.{DeckView}
 use Rattle.rtm_model.specs.declared.block.Block.{Block}
 use Rattle.rtm_model.specs.declared.block.Place.{Place}
+use Rattle.rtm_model.specs.Limits.{most_blocks}
 use Rattle.rtm_model.specs.Blocks.{after_return, block_of, cut_to, from_first, has_one_block, in_newest_bracket, is_block_of, newest_bracket, with_bracket, with_linked, with_newest_at, with_place, without_bracket, without_newest}
-use Rattle.rtm_model.specs.Soundness.{BlocksFall, BracketsFall, IsBracket, IsPlace, oldest_or}
+use Rattle.rtm_model.specs.inner.Soundness.{BlocksFall, BracketsFall, IsBracket, IsPlace, oldest_or}
 use Rattle.rtm_law_sound_units.proofs.Places.{first_is_place}
 
 -- the brackets of a unit after n entries
@@ -48,10 +49,10 @@ placed d n place (blocks ∷ outer) p a =
     record { each = (newest_place d place blocks p a.each.0, a.each.1); births = (f.0, f.1) }
 
 -- LINK
-linked_bracket : (d : DeckView) (born prog : ℕ) (blocks : List Block) → prog < length d.programs → length blocks < 32 → IsBracket d blocks → IsBracket d (block_of born prog ∷ blocks)
+linked_bracket : (d : DeckView) (born prog : ℕ) (blocks : List Block) → prog < length d.programs → length blocks < most_blocks → IsBracket d blocks → IsBracket d (block_of born prog ∷ blocks)
 linked_bracket d born prog blocks h room b = record { some = omega arith; few = omega arith; places = (first_is_place d prog h, b.places) }
 
-pub linked : (d : DeckView) (n prog : ℕ) (brackets : List (List Block)) → prog < length d.programs → length (newest_bracket brackets) < 32 → AreBrackets d n brackets → AreBrackets d (n + 1) (with_linked (n + 1) prog brackets)
+pub linked : (d : DeckView) (n prog : ℕ) (brackets : List (List Block)) → prog < length d.programs → length (newest_bracket brackets) < most_blocks → AreBrackets d n brackets → AreBrackets d (n + 1) (with_linked (n + 1) prog brackets)
 linked d n prog [] h room a = record { each = tt; births = tt }
 linked d n prog (blocks ∷ outer) h room a = record {
   each = (linked_bracket d (n + 1) prog blocks h room a.each.0, a.each.1);

@@ -5,7 +5,7 @@ use Rattle.std.specs.List.{AllByRecursion}
 use Rattle.std.proofs.lemmas.Bool.{eqb-true, eqb-false}
 use Rattle.rtm_model.specs.declared.reg.Reg.{Reg}
 use Rattle.rtm_model.specs.Chains.{is_of_depth, with_in_place, without_first, without_depth}
-use Rattle.rtm_model.specs.Soundness.{RoutinesFall}
+use Rattle.rtm_model.specs.inner.Soundness.{RoutinesFall}
 
 -- a later moment, or a deeper bracket
 pub fall_later : (n m k j : ℕ) (regs : List Reg) → n ≤ m → k ≤ j → RoutinesFall n k regs → RoutinesFall m j regs
@@ -38,22 +38,6 @@ first_if n k reg regs rest false h i f g = (h, i, g)
 pub fall_without_first : (p : Reg → Bool) (n k : ℕ) (regs : List Reg) → RoutinesFall n k regs → RoutinesFall n k (without_first p regs)
 fall_without_first p n k [] f = tt
 fall_without_first p n k (reg ∷ regs) f = first_if n k reg regs (without_first p regs) (p reg) f.0 f.1 f.2 (fall_without_first p reg.born reg.depth regs f.2)
-
-kept_first : (P : Reg → Type 0) (reg : Reg) (regs rest : List Reg) (b : Bool) → P reg → AllByRecursion P regs → AllByRecursion P rest → AllByRecursion P (cond b regs (reg ∷ rest))
-kept_first P reg regs rest true here all more = all
-kept_first P reg regs rest false here all more = (here, more)
-
-pub all_without_first : (P : Reg → Type 0) (p : Reg → Bool) (regs : List Reg) → AllByRecursion P regs → AllByRecursion P (without_first p regs)
-all_without_first P p [] a = tt
-all_without_first P p (reg ∷ regs) a = kept_first P reg regs (without_first p regs) (p reg) a.0 a.1 (all_without_first P p regs a.1)
-
-first_length : (reg : Reg) (regs rest : List Reg) (b : Bool) → length rest ≤ length regs → length (cond b regs (reg ∷ rest)) ≤ suc (length regs)
-first_length reg regs rest true h = omega arith
-first_length reg regs rest false h = omega arith
-
-pub length_without_first : (p : Reg → Bool) (regs : List Reg) → length (without_first p regs) ≤ length regs
-length_without_first p [] = omega arith
-length_without_first p (reg ∷ regs) = first_length reg regs (without_first p regs) (p reg) (length_without_first p regs)
 
 -- one in the place of the first that passes a test
 place_if : (P : Reg → Type 0) (y reg : Reg) (regs rest : List Reg) (b : Bool) → P y → P reg → AllByRecursion P regs → AllByRecursion P rest → AllByRecursion P (cond b (y ∷ regs) (reg ∷ rest))

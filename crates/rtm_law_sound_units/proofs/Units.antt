@@ -1,25 +1,18 @@
 -- The units of a world after a change of one of them.
-use Rattle.std.proofs.Common.{◌≡◌, ℕ, zero, suc, Bool, true, false, List, [], ◌∷◌, get_or, set, get_or-set_other}
+use Rattle.std.proofs.Common.{ℕ, zero, suc, Bool, true, false, List, [], ◌∷◌}
 use Rattle.std.specs.Prelude.{if◌then◌else◌, is_some}
 use Rattle.rtm_model.specs.declared.abort.Abort.{Abort}
-use Rattle.rtm_model.specs.Births.{post_to_subtasks, with_posted}
+use Rattle.rtm_model.specs.Posts.{post_to_subtasks, with_posted}
 use Rattle.rtm_model.specs.Tasks.{Life, is_subtask_of}
 use Rattle.rtm_model.specs.World.{Core, UnitOfWork, on_unit, unborn_unit, unit_at}
-
--- what holds of each element, and of the default, still does after a change of one
-pub each_set : {X : Type 0} (P : X → Type 0) (xs : List X) (i : ℕ) (y d : X) → ((j : ℕ) → P (get_or xs j d)) → P y → (j : ℕ) → P (get_or (set xs i y) j d)
-each_set P [] i y d h new j = h j
-each_set P (x ∷ xs) zero y d h new zero = new
-each_set P (x ∷ xs) zero y d h new (suc j) = h (suc j)
-each_set P (x ∷ xs) (suc i) y d h new zero = h 0
-each_set P (x ∷ xs) (suc i) y d h new (suc j) = each_set P xs i y d (λ k. h (suc k)) new j
+use Rattle.rtm_model.proofs.Lists.{each_set}
 
 -- something holds of each unit
 abbrev pub EachUnit : (UnitOfWork → Type 0) → List UnitOfWork → Type 0
 EachUnit P units = (u : ℕ) → P (unit_at u units)
 
 pub on_each : (P : UnitOfWork → Type 0) (units : List UnitOfWork) (v : ℕ) (f : UnitOfWork → UnitOfWork) → EachUnit P units → P (f (unit_at v units)) → EachUnit P (on_unit v f units)
-on_each P units v f h new = each_set P units v (f (unit_at v units)) unborn_unit h new
+on_each P units v f h new = each_set (λ u unit. P unit) unborn_unit units v (f (unit_at v units)) h new
 
 posted_if : (P : UnitOfWork → Type 0) (b late : Bool) (abort : Abort) (unit : UnitOfWork) → P unit → P (with_posted late abort unit) → P (if b then with_posted late abort unit else unit)
 posted_if P true late abort unit h i = i
@@ -33,7 +26,3 @@ posted_each P u abort keeps none (life ∷ lives) [] h v = none
 posted_each P u abort keeps none (life ∷ lives) (unit ∷ units) h zero =
     posted_if P (is_subtask_of u life) (is_some (Core.begun unit.core)) abort unit (h 0) (keeps (is_some (Core.begun unit.core)) unit (h 0))
 posted_each P u abort keeps none (life ∷ lives) (unit ∷ units) h (suc v) = posted_each P u abort keeps none lives units (λ k. h (suc k)) v
-
--- another unit is as it was
-pub other_unit : (u v : ℕ) (f : UnitOfWork → UnitOfWork) (units : List UnitOfWork) → (v ≡ u → ⊥) → unit_at v (on_unit u f units) ≡ unit_at v units
-other_unit u v f units ne = get_or-set_other units u v (f (unit_at u units)) unborn_unit ne

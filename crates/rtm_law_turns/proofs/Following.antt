@@ -35,10 +35,10 @@ own_if : (b : Bool) (x y : Option What) → IfSome x IsOwn → IfSome y IsOwn �
 own_if true x y h i = h
 own_if false x y h i = i
 
-handled_own : (r : ErrorRecord) (o own : Option Reg) → IsOwn (handling_of r o own)
-handled_own r (Some reg) own = tt
-handled_own r None (Some own) = tt
-handled_own r None None = tt
+handled_own : (sdwa : Bool) (r : ErrorRecord) (o own : Option Reg) → IsOwn (handling_of sdwa r o own)
+handled_own sdwa r (Some reg) own = tt
+handled_own sdwa r None (Some own) = tt
+handled_own sdwa r None None = tt
 
 returned_own : (d : DeckView) (c : Core) (a : Surroundings) (o : Option Reg) → IsOwn (last_return d c a o)
 returned_own d c a None = tt
@@ -74,17 +74,17 @@ going_own d c a (Some begun) =
     (managed_own begun.code a.manager (release_or a.holding (done_of begun a)) (released_own a.holding (done_of begun a) tt)))
     (at_own d c a (newest_block c.blocks))
 
-first_own : (c : Core) (r : Option ErrorRecord) (abort : Option Abort) (rest : Option What) → IfSome rest IsOwn → IfSome (first_case c r abort rest) IsOwn
-first_own c (Some r) abort rest h = handled_own r (eligible_routine c r) (current c.levels)
-first_own c None (Some abort) rest h = tt
-first_own c None None rest h = h
+first_own : (sdwa : Bool) (c : Core) (r : Option ErrorRecord) (abort : Option Abort) (rest : Option What) → IfSome rest IsOwn → IfSome (first_case sdwa c r abort rest) IsOwn
+first_own sdwa c (Some r) abort rest h = handled_own sdwa r (eligible_routine c r) (current c.levels)
+first_own sdwa c None (Some abort) rest h = tt
+first_own sdwa c None None rest h = h
 
 unit_own : (d : DeckView) (w : World) (u : ℕ) (o : Option Code) → IfSome (next_of_unit d w u o) IsOwn
 unit_own d w u (Some code) = tt
 unit_own d w u None =
     let c = core_at u w in
     let a = surroundings d w u in
-    own_if (lives_in w u) (next_unit d c a) None (first_own c (error_in c.levels) (next_landing c a) (ending_or_card d c a c.begun) (going_own d c a c.begun)) tt
+    own_if (lives_in w u) (next_unit d c a) None (first_own d.sdwa c (error_in c.levels) (next_landing c a) (ending_or_card d c a c.begun) (going_own d c a c.begun)) tt
 
 master_own : (d : DeckView) (w : World) (o : Option Code) → IfSome (next_of_master d w o) IsOwn
 master_own d w None = tt
@@ -93,7 +93,7 @@ master_own d w (Some code) =
     let a = surroundings d w (master d) in
     let living = position is_living (Tree.lives w.tree) in
     own_if w.over None (next_master d c a code living) tt
-    (first_own c (error_in c.levels) None (if is_outermost c.levels then Some (master_act code living a) else card_entry d c a)
+    (first_own d.sdwa c (error_in c.levels) None (if is_outermost c.levels then Some (master_act code living a) else card_entry d c a)
     (own_if (is_outermost c.levels) (Some (master_act code living a)) (card_entry d c a) (act_own code living a) (at_own d c a (newest_block c.blocks))))
 
 next_own : (d : DeckView) (w : World) (u : ℕ) → IfSome (next d w u) IsOwn
@@ -104,7 +104,7 @@ follows_by d w n u (whats.Arrive cmd _) own e = absurd own
 follows_by d w n u (whats.Exec at rc) own e = e
 follows_by d w n u (whats.Error at mark) own e = e
 follows_by d w n u (whats.Land class from mark) own e = e
-follows_by d w n u (whats.Enter kind reg mark) own e = e
+follows_by d w n u (whats.Enter kind reg mark bare) own e = e
 follows_by d w n u (whats.Leave kind reg verdict logrec dump) own e = e
 follows_by d w n u (whats.Begin code dump) own e = e
 follows_by d w n u (whats.Release class id owner) own e = e

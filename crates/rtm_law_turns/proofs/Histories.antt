@@ -5,7 +5,7 @@ use Rattle.std.proofs.lemmas.Bool.{le-leb}
 use Rattle.rtm_deck_items.specs.View.{DeckView}
 use Rattle.rtm_model.specs.declared.entry.End.{End}
 use Rattle.rtm_model.specs.declared.entry.Entry.{Entry}
-use Rattle.rtm_model.specs.Births.{advance, world, world_from}
+use Rattle.rtm_model.specs.Advance.{advance, world, world_from}
 use Rattle.rtm_model.specs.Legal.{Legal, LegalFrom, MayFollow, end_in, end_of}
 use Rattle.rtm_model.specs.Moments.{IsAt, before}
 use Rattle.rtm_model.specs.Turns.{seq, seq_from, seq_more, seq_step, turn_after, turn_from}

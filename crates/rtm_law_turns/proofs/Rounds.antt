@@ -136,7 +136,7 @@ behind_in d u unit (Arrive cmd posted) h i = h
 behind_in d u unit (Exec at rc) h i = after_in d unit (unit == length d.units) refl i
 behind_in d u unit (Error at mark) h i = after_in d unit (unit == length d.units) refl i
 behind_in d u unit (Land class from mark) h i = after_in d unit (unit == length d.units) refl i
-behind_in d u unit (Enter kind reg mark) h i = after_in d unit (unit == length d.units) refl i
+behind_in d u unit (Enter kind reg mark bare) h i = after_in d unit (unit == length d.units) refl i
 behind_in d u unit (Leave kind reg verdict logrec dump) h i = after_in d unit (unit == length d.units) refl i
 behind_in d u unit (Begin code dump) h i = after_in d unit (unit == length d.units) refl i
 behind_in d u unit (Release class id owner) h i = after_in d unit (unit == length d.units) refl i

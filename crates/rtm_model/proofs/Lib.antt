@@ -1,2 +1,9 @@
+pub mod Backwards
+pub mod Cards
+pub mod Codes
+pub mod Landing
+pub mod Levels
 pub mod Lists
 pub mod SetrpCards
+pub mod Start
+pub mod Units

@@ -1,34 +1,15 @@
--- What holds of each element of a list.
-use Rattle.std.proofs.Common.{◌≡◌, ℕ, zero, suc, ◌<◌, ◌≤◌, Bool, true, false, cond, ◌&&◌, List, [], ◌∷◌, length, Some, refl, subst, arith}
-use Rattle.std.specs.Prelude.{filter, find, slice_get, IsTrue}
-use Rattle.std.specs.List.{AllByRecursion, list_all}
+-- What holds of each element of a list, also after some are taken away, or one is written.
+pub use Rattle.rtm_deck_items.proofs.Lists.{at_from_list_all, both_true}
+pub use Rattle.std.proofs.lemmas.Option.{slice_get_within as below_length}
+use Rattle.std.proofs.Common.{◌≡◌, ℕ, zero, suc, ◌≤◌, Bool, true, false, cond, List, [], ◌∷◌, length, get_or, set, refl, sym, ap, subst, arith}
+use Rattle.std.specs.Prelude.{filter}
+use Rattle.std.specs.List.{AllByRecursion}
+use Rattle.rtm_model.specs.Chains.{without_first}
 
--- both of two tests
-pub both_true : (a b : Bool) → IsTrue (a && b) → IsTrue a × IsTrue b
-both_true true true h = (refl, refl)
-both_true true false h = absurd cc
-both_true false b h = absurd cc
-
--- a test passes each element, so one that is there
-pub at_from_list_all : {X : Type 0} (p : X → Bool) (xs : List X) (i : ℕ) (x : X) → IsTrue (list_all p xs) → slice_get xs i ≡ Some x → IsTrue (p x)
-at_from_list_all p [] i x h e = absurd cc
-at_from_list_all {X} p (y ∷ ys) zero x h e = let same : y ≡ x = cc in subst (λ (z : X). IsTrue (p z)) same (both_true (p y) (list_all p ys) h).0
-at_from_list_all p (y ∷ ys) (suc i) x h e = at_from_list_all p ys i x (both_true (p y) (list_all p ys) h).1 e
-
--- an element that is there stands below the length
-pub below_length : {X : Type 0} (xs : List X) (i : ℕ) (x : X) → slice_get xs i ≡ Some x → i < length xs
-below_length [] i x e = absurd cc
-below_length (y ∷ ys) zero x e = omega arith
-below_length (y ∷ ys) (suc i) x e = omega (arith, below_length ys i x e)
-
--- what is found passes the test and is an element
-found_in : {X : Type 0} (P : X → Type 0) (p : X → Bool) (y : X) (ys : List X) (b : Bool) → p y ≡ b → P y → ((x : X) → find p ys ≡ Some x → P x × IsTrue (p x)) → (x : X) → cond b (Some y) (find p ys) ≡ Some x → P x × IsTrue (p x)
-found_in {X} P p y ys true e here more x f = let same : y ≡ x = cc in subst (λ (z : X). P z × IsTrue (p z)) same (here, e)
-found_in P p y ys false e here more x f = more x f
-
-pub at_found : {X : Type 0} (P : X → Type 0) (p : X → Bool) (xs : List X) → AllByRecursion P xs → (x : X) → find p xs ≡ Some x → P x × IsTrue (p x)
-at_found P p [] all x e = absurd cc
-at_found P p (y ∷ ys) all x e = found_in P p y ys (p y) refl all.0 (at_found P p ys all.1) x e
+-- what follows of each element
+pub all_by : {X : Type 0} (P Q : X → Type 0) → ((x : X) → P x → Q x) → (xs : List X) → AllByRecursion P xs → AllByRecursion Q xs
+all_by P Q f [] all = tt
+all_by P Q f (x ∷ xs) all = (f x all.0, all_by P Q f xs all.1)
 
 -- what passes a test, of elements that all have P
 kept_if : {X : Type 0} (P : X → Type 0) (b : Bool) (x : X) (xs : List X) → P x → AllByRecursion P xs → AllByRecursion P (cond b (x ∷ xs) xs)
@@ -46,3 +27,33 @@ length_if false x ys n h = omega arith
 pub length-filter-le : {X : Type 0} (p : X → Bool) (xs : List X) → length (filter p xs) ≤ length xs
 length-filter-le p [] = omega arith
 length-filter-le p (x ∷ xs) = length_if (p x) x (filter p xs) (length xs) (length-filter-le p xs)
+
+-- without the first that passes a test, each of the others still has what all had
+first_if : {X : Type 0} (P : X → Type 0) (b : Bool) (x : X) (xs ys : List X) → P x → AllByRecursion P xs → AllByRecursion P ys → AllByRecursion P (cond b xs (x ∷ ys))
+first_if P true x xs ys here all rest = all
+first_if P false x xs ys here all rest = (here, rest)
+
+pub all_without_first : {X : Type 0} (P : X → Type 0) (p : X → Bool) (xs : List X) → AllByRecursion P xs → AllByRecursion P (without_first p xs)
+all_without_first P p [] all = tt
+all_without_first P p (x ∷ xs) all = first_if P (p x) x xs (without_first p xs) all.0 all.1 (all_without_first P p xs all.1)
+
+-- and there are no more of them
+fewer_if : {X : Type 0} (b : Bool) (x : X) (xs ys : List X) → length ys ≤ length xs → length (cond b xs (x ∷ ys)) ≤ suc (length xs)
+fewer_if true x xs ys h = omega arith
+fewer_if false x xs ys h = omega arith
+
+pub length-without_first-le : {X : Type 0} (p : X → Bool) (xs : List X) → length (without_first p xs) ≤ length xs
+length-without_first-le p [] = omega arith
+length-without_first-le p (x ∷ xs) = fewer_if (p x) x xs (without_first p xs) (length-without_first-le p xs)
+
+-- what holds of the element that is read, and of what is written where that is the one, holds after the writing
+pub set_kept : {X : Type 0} (P : X → Type 0) (d : X) (xs : List X) (u v : ℕ) (y : X) → P (get_or xs v d) → (v ≡ u → P y) → P (get_or (set xs u y) v d)
+set_kept P d [] u v y h here = h
+set_kept P d (x ∷ xs) zero zero y h here = here refl
+set_kept P d (x ∷ xs) zero (suc v) y h here = h
+set_kept P d (x ∷ xs) (suc u) zero y h here = h
+set_kept P d (x ∷ xs) (suc u) (suc v) y h here = set_kept P d xs u v y h (λ e. here (ap suc e))
+
+-- what holds at each number, and of what is written at its own, holds at each number after the writing
+pub each_set : {X : Type 0} (P : ℕ → X → Type 0) (d : X) (xs : List X) (u : ℕ) (y : X) → ((v : ℕ) → P v (get_or xs v d)) → P u y → (v : ℕ) → P v (get_or (set xs u y) v d)
+each_set {X} P d xs u y all here v = set_kept (P v) d xs u v y (all v) (λ e. subst (λ (k : ℕ). P k y) (sym e) here)

@@ -1,7 +1,8 @@
 -- Aborts that were posted to a unit and have not landed: a list in the order in which they came, with at most one of a
 -- class (this profile).
-use Rattle.std.specs.Prelude.{◌≡◌, Bool, true, false, not, ◌||◌, ◌&&◌, if◌then◌else◌, List, [], ◌∷◌, ◌++◌, Option, Some, None}
+use Rattle.std.specs.Prelude.{◌≡◌, ◌==◌, ℕ, find, Bool, true, false, not, ◌||◌, ◌&&◌, if◌then◌else◌, List, [], ◌∷◌, ◌++◌, Option, Some, None}
 use Rattle.std.specs.List.{list_any}
+use Rattle.rtm_model.specs.Chains.{without_first}
 use Rattle.rtm_model.specs.declared.abort.Abort.{Abort}
 use Rattle.rtm_model.specs.declared.entry.Class.{Class}
 use Rattle.rtm_model.specs.declared.entry.Class.TheVariants.{Cancel, Detach, Mother, Step, Abterm, Srb}
@@ -38,10 +39,17 @@ abbrev pub first_abort : List Abort → Option Abort
 first_abort [] = None
 first_abort (abort ∷ later) = Some abort
 
+-- the abort of that class that was posted at that entry
+abbrev pub is_named : Class → ℕ → Abort → Bool
+is_named class from abort = is_of_class class abort && (abort.from == from)
+
+-- the pending abort of that name
+abbrev pub abort_named : Class → ℕ → List Abort → Option Abort
+abort_named class from aborts = find (is_named class from) aborts
+
 -- it has landed
-abbrev pub after_landing : List Abort → List Abort
-after_landing [] = []
-after_landing (abort ∷ later) = later
+abbrev pub after_landing : Class → ℕ → List Abort → List Abort
+after_landing class from aborts = without_first (is_named class from) aborts
 
 -- no two aborts of a class are pending
 abbrev pub HasDistinctClasses : List Abort → Type 0

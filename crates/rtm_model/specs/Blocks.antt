@@ -6,6 +6,7 @@ use Rattle.std.specs.Option.{unwrap_or}
 use Rattle.std.specs.List.{last_or}
 use Rattle.rtm_model.specs.declared.block.Place.{Place}
 use Rattle.rtm_model.specs.declared.block.Block.{Block}
+use Rattle.rtm_model.specs.Limits.{most_blocks, most_brackets}
 
 -- the newest of a list, which stands first
 abbrev pub newest : {A : Type 0} → List A → Option A
@@ -91,11 +92,11 @@ has_one_block brackets = length (newest_bracket brackets) == 1
 
 -- a bracket has as many request blocks as it may have, so that LINK is an error (this profile)
 abbrev pub has_full_bracket : List (List Block) → Bool
-has_full_bracket brackets = nat_le 32 (length (newest_bracket brackets))
+has_full_bracket brackets = nat_le most_blocks (length (newest_bracket brackets))
 
 -- a unit has as many brackets as it may have (this profile)
 abbrev pub has_full_brackets : List (List Block) → Bool
-has_full_brackets brackets = nat_le 16 (length brackets)
+has_full_brackets brackets = nat_le most_brackets (length brackets)
 
 -- a bracket is opened, with one request block
 abbrev pub with_bracket : ℕ → ℕ → List (List Block) → List (List Block)

@@ -3,9 +3,10 @@ use Rattle.std.specs.Prelude.{Bool, List, None, Option, Some, false, if◌then�
 use Rattle.std.specs.List.{list_any}
 use Rattle.std.specs.Option.{option_map_or}
 use Rattle.rtm_codes.specs.declared.code.Code.{Code}
-use Rattle.rtm_codes.specs.declared.code.Code.TheVariants.{Sys, User}
+use Rattle.rtm_codes.specs.declared.code.Code.TheVariants.{Sys}
+use Rattle.rtm_codes.specs.Code.{same_code}
 use Rattle.rtm_deck_items.specs.declared.op.Op.{Op}
-use Rattle.rtm_deck_items.specs.declared.op.Op.TheVariants.{Abend, Abterm, Attachx, Branch, Detach, EstaexCt, EstaexOv, EstaexZero, Free, FrrAdd, FrrDelete, FrrPurge, FrrReplace, Get, IfClup, IfCode, IfPerc, Link, Memterm, MgrAdd, MgrDelete, Nop, Post, Return, Schedule, SetRp, Wait, WaitTask, Xctl}
+use Rattle.rtm_deck_items.specs.declared.op.Op.TheVariants.{Abend, Abterm, Attachx, Branch, Detach, EstaexCt, EstaexOv, EstaexZero, Free, FrrAdd, FrrDelete, FrrPurge, FrrReplace, Get, IfClup, IfCode, IfPerc, Link, Memterm, MgrAdd, MgrDelete, Nop, Post, Ret15, Return, Schedule, SetRp, Wait, WaitTask, Xctl}
 use Rattle.rtm_model.specs.declared.surroundings.Surroundings.{Surroundings}
 use Rattle.rtm_model.specs.declared.entry.Fate.{Fate}
 use Rattle.rtm_model.specs.declared.entry.Fate.TheVariants.{Late, Merged, Queued}
@@ -15,7 +16,8 @@ use Rattle.rtm_model.specs.declared.outcome.Outcome.TheVariants.{Abends, Execute
 use Rattle.rtm_model.specs.declared.reg.Reg.{Reg}
 use Rattle.rtm_model.specs.Blocks.{has_full_bracket, has_one_block, newest_birth}
 use Rattle.rtm_model.specs.Chains.{newest_of, newest_owned}
-use Rattle.rtm_model.specs.Levels.{Bracket, depth_in, is_manager, record_in, recovers}
+use Rattle.rtm_model.specs.Levels.{Bracket, depth_in, is_bare, is_manager, record_in, recovers}
+use Rattle.rtm_model.specs.Limits.{deepest, most_estaes, most_frrs}
 use Rattle.rtm_model.specs.World.{Core}
 
 -- System completion codes of cards that stand where they may not, or find no room. 07D, 0F8 and 23E are those of MVS
@@ -47,42 +49,105 @@ too_many_managers = Sys 0xEE5
 abbrev pub out_of_routine : Code
 out_of_routine = Sys 0xEE6
 
+abbrev pub without_sdwa : Code
+without_sdwa = Sys 0xEE7
+
 -- Errors of mode (this profile)
+
+-- where a card may stand
+pub data Mode : Type 0 where
+  -- in any unit
+  Anywhere : Mode
+  -- in a task in which no FRR lives
+  ForTask : Mode
+  -- in such a task, and in no resource manager
+  ForTaskOutsideManager : Mode
+  -- in any unit in which no resource manager runs
+  OutsideManager : Mode
+  -- in a recovery routine
+  ForRoutine : Mode
+  -- in a recovery routine that was given an SDWA
+  ForSdwa : Mode
+
+abbrev pub mode_of : Op → Mode
+mode_of Nop = Anywhere
+mode_of (Get class id) = Anywhere
+mode_of (Free class id) = Anywhere
+mode_of (Link prog) = ForTask
+mode_of (Xctl prog) = ForTask
+mode_of Return = Anywhere
+mode_of (Abend code reason dump step) = Anywhere
+mode_of (EstaexCt prog term cancel xctl) = ForTask
+mode_of (EstaexOv prog term cancel xctl) = ForTask
+mode_of EstaexZero = ForTask
+mode_of (FrrAdd prog) = Anywhere
+mode_of FrrDelete = Anywhere
+mode_of (FrrReplace prog) = Anywhere
+mode_of FrrPurge = Anywhere
+mode_of (Attachx unit estai term) = ForTaskOutsideManager
+mode_of (Detach unit stae) = ForTaskOutsideManager
+mode_of (Abterm unit code reason dump retry) = Anywhere
+mode_of (Memterm code) = OutsideManager
+mode_of (MgrAdd prog space) = ForTaskOutsideManager
+mode_of (MgrDelete prog space) = ForTaskOutsideManager
+mode_of (Schedule unit) = OutsideManager
+mode_of (Wait event) = ForTaskOutsideManager
+mode_of (WaitTask unit) = ForTaskOutsideManager
+mode_of (Post event) = Anywhere
+mode_of (SetRp setrp) = ForSdwa
+mode_of (Ret15 rc label) = ForRoutine
+mode_of (Branch label) = Anywhere
+mode_of (IfCode code label) = ForRoutine
+mode_of (IfClup label) = ForSdwa
+mode_of (IfPerc label) = ForSdwa
+
+abbrev pub is_for_task : Mode → Bool
+is_for_task Anywhere = false
+is_for_task ForTask = true
+is_for_task ForTaskOutsideManager = true
+is_for_task OutsideManager = false
+is_for_task ForRoutine = false
+is_for_task ForSdwa = false
+
+abbrev pub is_outside_manager : Mode → Bool
+is_outside_manager Anywhere = false
+is_outside_manager ForTask = false
+is_outside_manager ForTaskOutsideManager = true
+is_outside_manager OutsideManager = true
+is_outside_manager ForRoutine = false
+is_outside_manager ForSdwa = false
+
+abbrev pub is_for_routine : Mode → Bool
+is_for_routine Anywhere = false
+is_for_routine ForTask = false
+is_for_routine ForTaskOutsideManager = false
+is_for_routine OutsideManager = false
+is_for_routine ForRoutine = true
+is_for_routine ForSdwa = true
+
+abbrev pub is_for_sdwa : Mode → Bool
+is_for_sdwa Anywhere = false
+is_for_sdwa ForTask = false
+is_for_sdwa ForTaskOutsideManager = false
+is_for_sdwa OutsideManager = false
+is_for_sdwa ForRoutine = false
+is_for_sdwa ForSdwa = true
 
 -- the card is for a task in which no FRR lives
 abbrev pub wants_task : Op → Bool
-wants_task (Link prog) = true
-wants_task (Xctl prog) = true
-wants_task (EstaexCt prog term cancel xctl) = true
-wants_task (EstaexOv prog term cancel xctl) = true
-wants_task EstaexZero = true
-wants_task (Attachx unit estai term) = true
-wants_task (Detach unit stae) = true
-wants_task (MgrAdd prog space) = true
-wants_task (MgrDelete prog space) = true
-wants_task (Wait event) = true
-wants_task (WaitTask unit) = true
-wants_task _ = false
+wants_task op = is_for_task (mode_of op)
 
 -- the card is for a unit in which no resource manager runs
 abbrev pub wants_no_manager : Op → Bool
-wants_no_manager (Attachx unit estai term) = true
-wants_no_manager (Detach unit stae) = true
-wants_no_manager (MgrAdd prog space) = true
-wants_no_manager (MgrDelete prog space) = true
-wants_no_manager (Schedule unit) = true
-wants_no_manager (Wait event) = true
-wants_no_manager (WaitTask unit) = true
-wants_no_manager (Memterm code) = true
-wants_no_manager _ = false
+wants_no_manager op = is_outside_manager (mode_of op)
 
 -- the card is for a recovery routine
 abbrev pub wants_routine : Op → Bool
-wants_routine (SetRp setrp) = true
-wants_routine (IfCode code label) = true
-wants_routine (IfClup label) = true
-wants_routine (IfPerc label) = true
-wants_routine _ = false
+wants_routine op = is_for_routine (mode_of op)
+
+-- the card is for a routine that has an SDWA
+abbrev pub wants_sdwa : Op → Bool
+wants_sdwa op = is_for_sdwa (mode_of op)
 
 -- an FRR of the unit lives, of whatever bracket
 abbrev pub has_frr : List Reg → Bool
@@ -103,6 +168,7 @@ mode_error c a op =
     if wants_task op && (a.srb || has_frr c.frrs) then Some wrong_mode
     else if wants_no_manager op && in_manager c.levels then Some wrong_mode
     else if wants_routine op && not (recovers c.levels) then Some out_of_routine
+    else if wants_sdwa op && is_bare c.levels then Some without_sdwa
     else None
 
 -- The rows
@@ -129,17 +195,17 @@ fate_rc Queued = 0
 fate_rc Merged = 4
 fate_rc Late = 8
 
--- the unit's innermost bracket is its 16th, in which no recovery routine is made (this profile)
+-- the unit's innermost bracket is its last, in which no recovery routine is made (this profile)
 abbrev pub is_deepest : List Bracket → Bool
-is_deepest levels = nat_le 15 (depth_in levels)
+is_deepest levels = nat_le deepest (depth_in levels)
 
--- SETFRR A: at most 16 FRRs of a unit live (this profile; Authorized Assembler Services Reference, SETFRR)
+-- SETFRR A: so many FRRs of a unit live at most (this profile; Authorized Assembler Services Reference, SETFRR)
 abbrev pub frr_row : List Bracket → List Reg → Outcome
-frr_row levels frrs = if is_deepest levels then fails too_deep else unless (length frrs == 16) too_many_frrs
+frr_row levels frrs = if is_deepest levels then fails too_deep else unless (length frrs == most_frrs) too_many_frrs
 
--- ESTAEX CT: at most 64 ESTAE routines of a unit live (this profile; Assembler Services Reference, ESTAEX)
+-- ESTAEX CT: so many ESTAE routines of a unit live at most (this profile; Assembler Services Reference, ESTAEX)
 abbrev pub estae_row : List Bracket → List Reg → Outcome
-estae_row levels estaes = if is_deepest levels then fails too_deep else unless (length estaes == 64) too_many_estaes
+estae_row levels estaes = if is_deepest levels then fails too_deep else unless (length estaes == most_estaes) too_many_estaes
 
 -- ESTAEX OV and ESTAEX 0 speak of the bracket's newest ESTAE routine, if the request block that runs has made it
 abbrev pub newest_owned_here : Core → Option Reg
@@ -148,11 +214,6 @@ newest_owned_here c = newest_owned (depth_in c.levels) (newest_birth c.blocks) c
 -- SETFRR D and R speak of the bracket's newest FRR
 abbrev pub frr_here : Core → Option Reg
 frr_here c = newest_of (depth_in c.levels) c.frrs
-
-abbrev pub is_same_code : Code → Code → Bool
-is_same_code (Sys a) (Sys b) = a == b
-is_same_code (User a) (User b) = a == b
-is_same_code _ _ = false
 
 -- a branch that depends on the routine's record: taken 4, else 0 (this profile)
 abbrev pub branch_row : (ErrorRecord → Bool) → Option ErrorRecord → Outcome
@@ -185,8 +246,9 @@ row c a (Wait event) = waits_for a.found
 row c a (WaitTask unit) = waits_for a.found
 row c a (Post event) = Executed (if a.found then 4 else 0)
 row c a (SetRp setrp) = Executed 0
+row c a (Ret15 rc label) = Executed 0
 row c a (Branch label) = Executed 0
-row c a (IfCode code label) = branch_row (λ r. is_same_code r.code code) (record_in c.levels)
+row c a (IfCode code label) = branch_row (λ r. same_code r.code code) (record_in c.levels)
 row c a (IfClup label) = branch_row (λ r. r.flags.clup) (record_in c.levels)
 row c a (IfPerc label) = branch_row (λ r. r.flags.perc) (record_in c.levels)
 

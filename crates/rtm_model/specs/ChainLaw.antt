@@ -13,7 +13,7 @@ use Rattle.rtm_model.specs.declared.entry.What.{What}
 use Rattle.rtm_model.specs.declared.entry.What.TheVariants.{Begin, Enter, Leave, Purge}
 use Rattle.rtm_model.specs.declared.reg.Kind.{Kind}
 use Rattle.rtm_model.specs.declared.reg.Reg.{Reg}
-use Rattle.rtm_model.specs.Births.{world}
+use Rattle.rtm_model.specs.Advance.{world}
 use Rattle.rtm_model.specs.Course.{course_of, is_fail, is_valid_retry, opens_error}
 use Rattle.rtm_model.specs.Eligible.{AreDistinct, AreFalling, bracket_list, is_named, is_same_kind, list_of}
 use Rattle.rtm_model.specs.Entries.{OpenBracket, Opening, bracket, brackets_after, brackets_of, enclosing_brackets, error_at, is_open, outermost_bracket}
@@ -26,7 +26,7 @@ use Rattle.rtm_model.specs.World.{core_at}
 
 -- the ENTER of that index
 abbrev pub opening_at : ℕ → What → List Opening
-opening_at n (Enter kind born mark) = record { at = n; kind = kind; born = born } ∷ []
+opening_at n (Enter kind born mark bare) = record { at = n; kind = kind; born = born } ∷ []
 opening_at n _ = []
 
 -- the entry is made where the error is open in the unit's innermost bracket

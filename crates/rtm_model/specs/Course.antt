@@ -12,7 +12,7 @@ use Rattle.rtm_model.specs.declared.entry.What.TheVariants.{Arrive, Begin, Enter
 use Rattle.rtm_model.specs.declared.error_record.ErrorRecord.{ErrorRecord}
 use Rattle.rtm_model.specs.declared.reg.Kind.{Kind}
 use Rattle.rtm_model.specs.declared.reg.Reg.{Reg}
-use Rattle.rtm_model.specs.Births.{advance}
+use Rattle.rtm_model.specs.Advance.{advance}
 use Rattle.rtm_model.specs.Eligible.{is_named, list_of}
 use Rattle.rtm_model.specs.Entries.{purges}
 use Rattle.rtm_model.specs.Levels.{current, error_in, record_in}
@@ -49,7 +49,7 @@ has_failed c kind born verdict left =
 -- The error's bracket is the innermost: its next routine is entered; or, where none is left, the bracket's own
 -- routine has failed, or in the outermost bracket the unit begins to end.
 abbrev pub at_error : Core → What → List Reg → Option Course
-at_error c (Enter kind born mark) left = enter_first kind born left
+at_error c (Enter kind born mark bare) left = enter_first kind born left
 at_error c (Leave kind born verdict logrec dump) left = close_if (has_failed c kind born verdict left)
 at_error c (Begin code dump) left = close_if (is_outermost c.levels && (length left == 0))
 at_error c (Arrive cmd _) left = Some (Goes left)
@@ -81,7 +81,7 @@ after_routine c Over left = None
 abbrev pub in_routine : Core → What → Reg → List Reg → Option Course
 in_routine c (Leave kind born verdict logrec dump) routine left =
     if is_named kind born routine then after_routine c verdict left else None
-in_routine c (Enter kind born mark) routine left = Some (Runs routine left 1)
+in_routine c (Enter kind born mark bare) routine left = Some (Runs routine left 1)
 in_routine c (Exec at rc) routine left = Some (Runs routine left 0)
 in_routine c (Error at mark) routine left = Some (Runs routine left 0)
 in_routine c (Land class from mark) routine left = Some (Runs routine left 0)
@@ -91,7 +91,7 @@ in_routine c _ routine left = None
 -- brackets are open inside its routine's
 abbrev pub inside_routine : What → Reg → List Reg → ℕ → Option Course
 inside_routine (Leave kind born verdict logrec dump) routine left inside = Some (Runs routine left (inside - 1))
-inside_routine (Enter kind born mark) routine left inside = Some (Runs routine left (inside + 1))
+inside_routine (Enter kind born mark bare) routine left inside = Some (Runs routine left (inside + 1))
 inside_routine (Exec at rc) routine left inside = Some (Runs routine left inside)
 inside_routine (Error at mark) routine left inside = Some (Runs routine left inside)
 inside_routine (Land class from mark) routine left inside = Some (Runs routine left inside)

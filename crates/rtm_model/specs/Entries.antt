@@ -15,7 +15,7 @@ use Rattle.rtm_model.specs.declared.entry.Verdict.TheVariants.{Retry}
 use Rattle.rtm_model.specs.declared.entry.What.{What}
 use Rattle.rtm_model.specs.declared.entry.What.TheVariants.{Begin, Done, Enter, Error, Exec, Land, Leave, Purge}
 use Rattle.rtm_model.specs.declared.reg.Kind.{Kind}
-use Rattle.rtm_model.specs.Births.{is_estae}
+use Rattle.rtm_model.specs.OwnChange.{is_estae}
 use Rattle.rtm_model.specs.Levels.{is_frr, is_manager}
 use Rattle.rtm_model.specs.Tasks.{is_number}
 use Rattle.rtm_model.specs.declared.entry.Class.TheVariants as classes
@@ -55,7 +55,7 @@ brackets_left _ brackets = brackets
 abbrev pub own_brackets : ℕ → What → List OpenBracket → List OpenBracket
 own_brackets n (Error at mark) brackets = with_error_at (Some n) brackets
 own_brackets n (Land class from mark) brackets = with_error_at (Some n) brackets
-own_brackets n (Enter kind born mark) brackets =
+own_brackets n (Enter kind born mark bare) brackets =
     record { opening = Some (record { at = n; kind = kind; born = born }); error = None } ∷ brackets
 own_brackets n (Leave kind born verdict logrec dump) brackets = brackets_left verdict (enclosing_brackets brackets)
 own_brackets n (Begin code dump) brackets = outermost_bracket

@@ -8,13 +8,14 @@ use Rattle.rtm_model.specs.declared.entry.Verdict.{Verdict}
 use Rattle.rtm_model.specs.declared.entry.Verdict.TheVariants.{Retry}
 use Rattle.rtm_model.specs.declared.entry.What.{What}
 use Rattle.rtm_model.specs.declared.entry.What.TheVariants.{Arrive, Begin, Done, Enter, Error, Exec, Land, Leave, MemEnd, Purge, Release}
-use Rattle.rtm_model.specs.Applies.{IsMark}
-use Rattle.rtm_model.specs.Soundness.{IsPlace}
+use Rattle.rtm_model.specs.inner.Applies.{IsMark}
+use Rattle.rtm_model.specs.inner.Soundness.{IsPlace}
+use Rattle.rtm_model.specs.Limits.{words}
 use Rattle.rtm_model.specs.World.{master}
 
 -- the index of an entry has 32 bits
 abbrev pub IsIndex : ℕ → Type 0
-IsIndex n = n < 4294967296
+IsIndex n = n < words
 
 abbrev pub VerdictFits : DeckView → Verdict → Type 0
 VerdictFits d (Retry place) = IsPlace d place
@@ -24,7 +25,7 @@ abbrev pub WhatFits : DeckView → What → Type 0
 WhatFits d (Exec at rc) = IsPlace d at × (rc < 256)
 WhatFits d (Error at mark) = IsPlace d at × IsMark mark
 WhatFits d (Land class from mark) = IsIndex from × IsMark mark
-WhatFits d (Enter kind reg mark) = IsIndex reg × IsMark mark
+WhatFits d (Enter kind reg mark bare) = IsIndex reg × IsMark mark
 WhatFits d (Leave kind reg verdict logrec dump) = IsIndex reg × VerdictFits d verdict
 WhatFits d (Arrive cmd _) = cmd < length d.commands
 WhatFits d (Begin code dump) = IsInRange code

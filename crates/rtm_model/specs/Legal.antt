@@ -7,7 +7,7 @@ use Rattle.rtm_model.specs.declared.entry.Entry.{Entry}
 use Rattle.rtm_model.specs.declared.entry.What.{What}
 use Rattle.rtm_model.specs.declared.entry.What.TheVariants.{Arrive}
 use Rattle.rtm_model.specs.Arrivals.{arrival, first_arrival, goes_on}
-use Rattle.rtm_model.specs.Births.{advance, world}
+use Rattle.rtm_model.specs.Advance.{advance, world}
 use Rattle.rtm_model.specs.NextEntry.{next}
 use Rattle.rtm_model.specs.World.{World, start}
 

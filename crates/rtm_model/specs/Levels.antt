@@ -12,18 +12,19 @@ use Rattle.rtm_model.specs.declared.error_record.ErrorRecord.{ErrorRecord}
 use Rattle.rtm_model.specs.declared.reg.Reg.{Reg}
 use Rattle.rtm_model.specs.declared.reg.Kind.{Kind}
 use Rattle.rtm_model.specs.declared.reg.Kind.TheVariants.{Frr, Mgr}
-use Rattle.rtm_model.specs.Record.{value_or, setrp_in, after_percolation, inner_failed, verdict}
+use Rattle.rtm_model.specs.Record.{value_or, setrp_in, ret15_in, after_percolation, inner_failed, verdict}
 use Rattle.rtm_model.specs.Chains.{newest_of, next_estae, next_estai}
 
--- a bracket: the recovery routine or resource manager that runs in it (none in the outermost), and the record of the
--- error that is open in it
+-- a bracket: the recovery routine or resource manager that runs in it (none in the outermost), whether that was entered
+-- bare, without an SDWA, and the record of the error that is open in it
 pub record Bracket : Type 0 where
   pub routine : Option Reg
+  pub bare : Bool
   pub error : Option ErrorRecord
 
 -- the levels of a unit at its birth: the outermost bracket alone
 abbrev pub outermost_alone : List Bracket
-outermost_alone = record { routine = None; error = None } ∷ []
+outermost_alone = record { routine = None; bare = false; error = None } ∷ []
 
 -- What is read of levels.
 
@@ -50,6 +51,15 @@ error_of (Some l) = l.error
 -- the routine that runs in the newest bracket
 abbrev pub current : List Bracket → Option Reg
 current ls = routine_of (innermost_bracket ls)
+
+-- the routine of the bracket was entered without an SDWA
+abbrev pub is_bare_bracket : Option Bracket → Bool
+is_bare_bracket None = false
+is_bare_bracket (Some l) = l.bare
+
+-- the routine that runs in the newest bracket was entered without an SDWA
+abbrev pub is_bare : List Bracket → Bool
+is_bare ls = is_bare_bracket (innermost_bracket ls)
 
 -- the record of the error that is open in the newest bracket
 abbrev pub error_in : List Bracket → Option ErrorRecord
@@ -83,7 +93,7 @@ abbrev pub recovers : List Bracket → Bool
 recovers ls = is_recovery (current ls)
 
 -- the record of the routine that runs in the newest bracket: that of the error which it was entered for, open in the
--- enclosing bracket; a resource manager has none
+-- enclosing bracket, whether or not it was given to the routine; a resource manager has none
 abbrev pub record_in : List Bracket → Option ErrorRecord
 record_in ls = if recovers ls then error_of (enclosing_bracket ls) else None
 
@@ -155,13 +165,17 @@ on_record f l = with_open (option_map f l.error) l
 abbrev pub after_error : ErrorRecord → List Bracket → List Bracket
 after_error r ls = at_innermost (with_open (Some r)) ls
 
--- a routine is entered, in a bracket of its own
-abbrev pub after_enter : Reg → List Bracket → List Bracket
-after_enter reg ls = record { routine = Some reg; error = None } ∷ ls
+-- a routine is entered, with an SDWA or bare, in a bracket of its own
+abbrev pub after_enter : Reg → Bool → List Bracket → List Bracket
+after_enter reg bare ls = record { routine = Some reg; bare = bare; error = None } ∷ ls
 
 -- SETRP in the routine of the newest bracket changes its record
 abbrev pub after_setrp : Setrp → List Bracket → List Bracket
 after_setrp s ls = if recovers ls then at_enclosing (on_record (setrp_in s)) ls else ls
+
+-- RET15 in the routine of the newest bracket changes its record
+abbrev pub after_ret15 : ℕ → Option (List ℕ) → List Bracket → List Bracket
+after_ret15 rc label ls = if recovers ls then at_enclosing (on_record (ret15_in rc label)) ls else ls
 
 -- the routine has failed by the error that was open in its bracket
 abbrev pub after_inner_failure : Option ErrorRecord → ErrorRecord → ErrorRecord

@@ -1,3 +1,4 @@
+pub mod Limits
 pub mod Record
 pub mod Chains
 pub mod Blocks
@@ -11,6 +12,9 @@ pub mod Surroundings
 pub mod Cards
 pub mod NextEntry
 pub mod Births
+pub mod Posts
+pub mod OwnChange
+pub mod Advance
 pub mod Arrivals
 pub mod Legal
 pub mod Turns
@@ -23,6 +27,5 @@ pub mod AbortLaw
 pub mod Eligible
 pub mod Course
 pub mod ChainLaw
-pub mod Soundness
-pub mod Applies
+pub mod inner
 pub mod Fits

@@ -5,7 +5,7 @@ use Rattle.rtm_model.specs.declared.entry.Entry.{Entry}
 use Rattle.rtm_model.specs.declared.entry.What.{What}
 use Rattle.rtm_model.specs.declared.entry.What.TheVariants.{Arrive}
 use Rattle.rtm_model.specs.declared.holding.Holding.{Holding}
-use Rattle.rtm_model.specs.Births.{world}
+use Rattle.rtm_model.specs.Advance.{world}
 use Rattle.rtm_model.specs.Ending.{holdings_of, of_class}
 use Rattle.rtm_model.specs.World.{Core, UnitOfWork, World, core_at, unit_at}
 

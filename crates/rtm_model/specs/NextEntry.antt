@@ -57,9 +57,17 @@ end_mark code = record { code = code; reason = None; clup = false; perc = false;
 abbrev pub eligible_routine : Core → ErrorRecord → Option Reg
 eligible_routine c r = first_eligible (depth_in c.levels) r.flags.term_only c.frrs c.estaes c.estais
 
+-- ESTAE and ESTAI routines get no SDWA where the region is short of storage for one; an FRR always has one, and a
+-- resource manager never asks for one (this profile)
+abbrev pub is_entered_bare : Bool → Kind → Bool
+is_entered_bare sdwa Frr = false
+is_entered_bare sdwa Estae = not sdwa
+is_entered_bare sdwa Estai = not sdwa
+is_entered_bare sdwa Mgr = false
+
 -- it is entered
-abbrev pub enter_of : ErrorRecord → Reg → What
-enter_of r reg = Enter reg.kind reg.born (mark_of r)
+abbrev pub enter_of : Bool → ErrorRecord → Reg → What
+enter_of sdwa r reg = Enter reg.kind reg.born (mark_of r) (is_entered_bare sdwa reg.kind)
 
 -- none is eligible: the routine in whose bracket the error is open has failed
 abbrev pub failure_of : Reg → What
@@ -69,8 +77,8 @@ failure_of own = Leave own.kind own.born Fail false false
 abbrev pub begin_of : ErrorRecord → What
 begin_of r = Begin r.code r.flags.dump
 
-abbrev pub handling_of : ErrorRecord → Option Reg → Option Reg → What
-handling_of r routine own = choice_of (enter_of r) failure_of (begin_of r) routine own
+abbrev pub handling_of : Bool → ErrorRecord → Option Reg → Option Reg → What
+handling_of sdwa r routine own = choice_of (enter_of sdwa r) failure_of (begin_of r) routine own
 
 -- An abort lands (the points of interruption are this profile's)
 
@@ -155,7 +163,7 @@ card_entry d c a = card_entry_at d c a (newest_block c.blocks)
 
 -- the managers come first, newest first
 abbrev pub manager_or : Code → Option Manager1 → What → What
-manager_or code (Some manager) rest = Enter Mgr manager.born (end_mark code)
+manager_or code (Some manager) rest = Enter Mgr manager.born (end_mark code) false
 manager_or code None rest = rest
 
 -- then the holdings, by class, newest first
@@ -192,11 +200,11 @@ master_act code None a = manager_or code a.manager (release_or a.holding MemEnd)
 abbrev pub is_outermost : List Bracket → Bool
 is_outermost levels = depth_in levels == 0
 
--- an open error comes first, then the abort that lands, then the rest
-abbrev pub first_case : Core → Option ErrorRecord → Option Abort → Option What → Option What
-first_case c (Some r) abort rest = Some (handling_of r (eligible_routine c r) (current c.levels))
-first_case c None (Some abort) rest = Some (land_of abort)
-first_case c None None rest = rest
+-- an open error comes first, whose routines get an SDWA or not, then the abort that lands, then the rest
+abbrev pub first_case : Bool → Core → Option ErrorRecord → Option Abort → Option What → Option What
+first_case sdwa c (Some r) abort rest = Some (handling_of sdwa r (eligible_routine c r) (current c.levels))
+first_case sdwa c None (Some abort) rest = Some (land_of abort)
+first_case sdwa c None None rest = rest
 
 -- with no bracket open, a unit that has begun to end goes on with its ending; any other with its card
 abbrev pub ending_or_card : DeckView → Core → Surroundings → Option Beginning → Option What
@@ -205,12 +213,12 @@ ending_or_card d c a (Some begun) = if is_outermost c.levels then unit_act begun
 
 -- the next entry of a living unit
 abbrev pub next_unit : DeckView → Core → Surroundings → Option What
-next_unit d c a = first_case c (error_in c.levels) (next_landing c a) (ending_or_card d c a c.begun)
+next_unit d c a = first_case d.sdwa c (error_in c.levels) (next_landing c a) (ending_or_card d c a c.begun)
 
 -- the master's next entry at memory end, of that end code and where that unit is the first that lives
 abbrev pub next_master : DeckView → Core → Surroundings → Code → Option ℕ → Option What
 next_master d c a code living =
-    first_case c (error_in c.levels) None
+    first_case d.sdwa c (error_in c.levels) None
     (if is_outermost c.levels then Some (master_act code living a) else card_entry d c a)
 
 -- Once memory end has begun, no unit but the master has an entry; the master has none before, and none once the

@@ -1,6 +1,6 @@
 -- The record of an error, and what changes it (Authorized Assembler Services Guide, "Providing recovery"; the effects
 -- of the options of SETRP are those of the Assembler Services Reference, as this profile takes them).
-use Rattle.std.specs.Prelude.{ℕ, Bool, true, false, not, ◌&&◌, ◌==◌, if◌then◌else◌, Option, Some, None, is_some}
+use Rattle.std.specs.Prelude.{ℕ, List, Bool, true, false, not, ◌&&◌, ◌==◌, if◌then◌else◌, Option, Some, None, is_some}
 use Rattle.std.specs.Option.{unwrap_or, option_map, option_and_then}
 use Rattle.rtm_codes.specs.declared.code.Code.{Code}
 use Rattle.rtm_deck_items.specs.declared.op.Setrp.{Setrp}
@@ -62,6 +62,10 @@ setrp_in s r = record {
   rc = unwrap_or s.rc r.rc;
   retaddr = value_or s.retaddr r.retaddr;
 }
+
+-- RET15: the return code is stored, and the label of the retry where it is given, as SETRP stores them (this profile)
+abbrev pub ret15_in : ℕ → Option (List ℕ) → ErrorRecord → ErrorRecord
+ret15_in rc label r = record r { rc = rc; retaddr = value_or label r.retaddr }
 
 -- what a routine asked for is forgotten
 abbrev pub without_requests : RecordFlags → RecordFlags

@@ -3,7 +3,7 @@ use Rattle.std.specs.Prelude.{Bool, None, Option, Some, false, if◌then◌else�
 use Rattle.rtm_deck_items.specs.Reading.{op_at, job_step}
 use Rattle.rtm_deck_items.specs.View.{DeckView}
 use Rattle.rtm_deck_items.specs.declared.op.Op.{Op}
-use Rattle.rtm_deck_items.specs.declared.op.Op.TheVariants.{Abterm, Attachx, Detach, Free, Get, MgrAdd, MgrDelete, Post, Schedule, Wait, WaitTask}
+use Rattle.rtm_deck_items.specs.declared.op.Op.TheVariants.{Abend, Abterm, Attachx, Branch, Detach, EstaexCt, EstaexOv, EstaexZero, Free, FrrAdd, FrrDelete, FrrPurge, FrrReplace, Get, IfClup, IfCode, IfPerc, Link, Memterm, MgrAdd, MgrDelete, Nop, Post, Ret15, Return, Schedule, SetRp, Wait, WaitTask, Xctl}
 use Rattle.rtm_model.specs.declared.surroundings.Surroundings.{Surroundings}
 use Rattle.rtm_model.specs.declared.block.Place.{Place}
 use Rattle.rtm_model.specs.declared.entry.Class.{Class}
@@ -12,6 +12,7 @@ use Rattle.rtm_model.specs.declared.entry.Fate.TheVariants.{Late}
 use Rattle.rtm_model.specs.Aborts.{fate_of, first_abort}
 use Rattle.rtm_model.specs.Blocks.{place_in}
 use Rattle.rtm_model.specs.Ending.{held_count, holdings_of, newest_equal, newest_manager, next_manager, next_release}
+use Rattle.rtm_model.specs.Limits.{most_holdings, most_managers}
 use Rattle.rtm_model.specs.Tasks.{Tree, has_ended, has_subtask, is_dormant, is_number, is_posted, life_of, mother_of}
 use Rattle.rtm_model.specs.World.{Core, UnitOfWork, World, core_at, is_srb, lives_in, master, related_task, unit_at}
 use Rattle.rtm_model.specs.declared.entry.Class.TheVariants as classes
@@ -33,10 +34,10 @@ whose d u = if u == master d then None else Some u
 abbrev pub manager_task : ℕ → Bool → Option ℕ
 manager_task u space = if space then None else Some u
 
--- what the card would add has no room: at most 256 holdings of a unit and 64 resource managers live (this profile)
+-- what the card would add has no room: so many holdings of a unit and resource managers live at most (this profile)
 abbrev pub is_crowded : World → ℕ → Op → Bool
-is_crowded w u (Get class id) = held_count (holdings_of u w.holdings) == 256
-is_crowded w u (MgrAdd prog space) = length w.managers == 64
+is_crowded w u (Get class id) = held_count (holdings_of u w.holdings) == most_holdings
+is_crowded w u (MgrAdd prog space) = length w.managers == most_managers
 is_crowded w u _ = false
 
 -- what the card takes away, waits for, or posts is there already
@@ -46,7 +47,31 @@ is_found w u (MgrDelete prog space) = is_some (newest_manager prog (manager_task
 is_found w u (Wait event) = is_posted event (Tree.events w.tree)
 is_found w u (Post event) = is_posted event (Tree.events w.tree)
 is_found w u (WaitTask unit) = has_ended (life_of unit (Tree.lives w.tree))
-is_found w u _ = false
+is_found w u Nop = false
+is_found w u (Get class id) = false
+is_found w u (Link prog) = false
+is_found w u (Xctl prog) = false
+is_found w u Return = false
+is_found w u (Abend code reason dump step) = false
+is_found w u (EstaexCt prog term cancel xctl) = false
+is_found w u (EstaexOv prog term cancel xctl) = false
+is_found w u EstaexZero = false
+is_found w u (FrrAdd prog) = false
+is_found w u FrrDelete = false
+is_found w u (FrrReplace prog) = false
+is_found w u FrrPurge = false
+is_found w u (Attachx unit estai term) = false
+is_found w u (Detach unit stae) = false
+is_found w u (Abterm unit code reason dump retry) = false
+is_found w u (Memterm code) = false
+is_found w u (MgrAdd prog space) = false
+is_found w u (Schedule unit) = false
+is_found w u (SetRp setrp) = false
+is_found w u (Ret15 rc label) = false
+is_found w u (Branch label) = false
+is_found w u (IfCode code label) = false
+is_found w u (IfClup label) = false
+is_found w u (IfPerc label) = false
 
 -- the unit that the card would bring to life is dormant
 abbrev pub is_unborn : World → Op → Bool

@@ -23,8 +23,9 @@ pub record Beginning : Type 0 where
 
 -- What only a unit's own birth, entries and purge change: the request blocks of each bracket, and per bracket the
 -- routine that runs in it and its open error; the recovery routines that it has; that an abort without retry has
--- landed in it; and how it has begun to end. (What belongs to a unit: Authorized Assembler Services Guide,
--- "Providing recovery")
+-- landed in it; and how it has begun to end. A unit that lives and hasn't begun to end has request blocks for each of
+-- its levels; any other has none for the outermost, so that the blocks are one list shorter. (What belongs to a unit:
+-- Authorized Assembler Services Guide, "Providing recovery")
 pub record Core : Type 0 where
   pub blocks : List (List Block)
   pub levels : List Bracket

@@ -63,11 +63,12 @@ pub enum What {
         from: u32,
         mark: Mark,
     },
-    /// The routine that was born at the entry `reg` gets control.
+    /// The routine that was born at the entry `reg` gets control; a bare one gets no SDWA.
     Enter {
         kind: Kind,
         reg: u32,
         mark: Mark,
+        bare: bool,
     },
     /// It has ended.
     Leave {

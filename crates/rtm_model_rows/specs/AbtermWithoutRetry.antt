@@ -6,28 +6,24 @@ use Rattle.rtm_deck_items.specs.declared.op.Op.TheVariants.{EstaexCt, Nop, SetRp
 use Rattle.rtm_model.specs.declared.entry.Entry.{Entry}
 use Rattle.rtm_model.specs.declared.entry.Verdict.TheVariants.{Bad}
 use Rattle.rtm_model.specs.declared.reg.Kind.TheVariants.{Estae}
-use Rattle.rtm_model_rows.specs.Writing.{begin, card, enter, exec, full_mark, labelled_line, land, leave, memend, plain_done, program, setrp, task}
+use Rattle.rtm_model_rows.specs.Writing.{begin, card, deck_of, enter, exec, full_mark, labelled_line, land, leave, memend, plain_done, program, setrp, task}
 use Rattle.rtm_deck_items.specs.declared.op.Op.TheVariants as ops
 use Rattle.rtm_model.specs.declared.entry.Class.TheVariants as classes
 
 abbrev pub deck : DeckView
-deck = record {
-  limit = 20000;
-  programs =
-      program (codes "MAIN    ") (
-      card (EstaexCt 1 false true false) ∷
-      card (ops.Abterm 0 (User 5) None false false) ∷
-      labelled_line (codes "BACK    ") Nop ∷
-      []) ∷
-      program (codes "R       ") (
-      card (SetRp (setrp (Some 4) (Some (codes "BACK    ")) None None None None None None)) ∷
-      []) ∷
-      [];
-  units =
-      task (codes "JOB     ") 0 ∷
-      [];
-  commands = [];
-}
+deck =
+    deck_of 20000 (
+    program (codes "MAIN    ") (
+    card (EstaexCt 1 false true false) ∷
+    card (ops.Abterm 0 (User 5) None false false) ∷
+    labelled_line (codes "BACK    ") Nop ∷
+    []) ∷
+    program (codes "R       ") (
+    card (SetRp (setrp (Some 4) (Some (codes "BACK    ")) None None None None None None)) ∷
+    []) ∷
+    []) (
+    task (codes "JOB     ") 0 ∷
+    []) []
 
 abbrev pub history : List Entry
 history =

@@ -6,25 +6,21 @@ use Rattle.rtm_deck_items.specs.declared.op.Op.TheVariants.{Abend, EstaexCt, Wai
 use Rattle.rtm_model.specs.declared.entry.Entry.{Entry}
 use Rattle.rtm_model.specs.declared.entry.Fate.TheVariants.{Queued}
 use Rattle.rtm_model.specs.declared.reg.Kind.TheVariants.{Estae}
-use Rattle.rtm_model_rows.specs.Writing.{arrive, cancel, card, enter, error, exec, mark, program, task}
+use Rattle.rtm_model_rows.specs.Writing.{arrive, cancel, card, deck_of, enter, error, exec, mark, program, task}
 
 abbrev pub deck : DeckView
-deck = record {
-  limit = 20000;
-  programs =
-      program (codes "MAIN    ") (
-      card (EstaexCt 1 false false false) ∷
-      card (Abend (Sys 0x0C1) None false false) ∷
-      []) ∷
-      program (codes "W       ") (
-      card (Wait 9) ∷
-      []) ∷
-      [];
-  units =
-      task (codes "JOB     ") 0 ∷
-      [];
-  commands = cancel 0 100 false ∷ [];
-}
+deck =
+    deck_of 20000 (
+    program (codes "MAIN    ") (
+    card (EstaexCt 1 false false false) ∷
+    card (Abend (Sys 0x0C1) None false false) ∷
+    []) ∷
+    program (codes "W       ") (
+    card (Wait 9) ∷
+    []) ∷
+    []) (
+    task (codes "JOB     ") 0 ∷
+    []) (cancel 0 100 false ∷ [])
 
 abbrev pub history : List Entry
 history =

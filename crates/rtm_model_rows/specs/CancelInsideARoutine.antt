@@ -7,39 +7,35 @@ use Rattle.rtm_model.specs.declared.entry.Entry.{Entry}
 use Rattle.rtm_model.specs.declared.entry.Fate.TheVariants.{Queued}
 use Rattle.rtm_model.specs.declared.entry.Verdict.TheVariants.{Bad, Fail}
 use Rattle.rtm_model.specs.declared.reg.Kind.TheVariants.{Estae}
-use Rattle.rtm_model_rows.specs.Writing.{arrive, begin, cancel, card, enter, error, exec, full_mark, labelled_line, land, leave, mark, memend, plain_done, program, setrp, task}
+use Rattle.rtm_model_rows.specs.Writing.{arrive, begin, cancel, card, deck_of, enter, error, exec, full_mark, labelled_line, land, leave, mark, memend, plain_done, program, setrp, task}
 use Rattle.rtm_model.specs.declared.entry.Class.TheVariants as classes
 
 abbrev pub deck : DeckView
-deck = record {
-  limit = 20000;
-  programs =
-      program (codes "MAIN    ") (
-      card (EstaexCt 4 true true false) ∷
-      card (EstaexCt 1 false true false) ∷
-      card (Abend (Sys 0x0C1) None false false) ∷
-      labelled_line (codes "BACK    ") Nop ∷
-      []) ∷
-      program (codes "R1      ") (
-      card (EstaexCt 2 false true false) ∷
-      card (Abend (User 1) None false false) ∷
-      []) ∷
-      program (codes "R2      ") (
-      card (EstaexCt 3 false true false) ∷
-      card Nop ∷
-      card (Abend (User 2) None false false) ∷
-      []) ∷
-      program (codes "R3      ") (
-      []) ∷
-      program (codes "KEEP    ") (
-      card (SetRp (setrp (Some 4) (Some (codes "BACK    ")) None None None None None None)) ∷
-      []) ∷
-      [];
-  units =
-      task (codes "JOB     ") 0 ∷
-      [];
-  commands = cancel 0 8 false ∷ [];
-}
+deck =
+    deck_of 20000 (
+    program (codes "MAIN    ") (
+    card (EstaexCt 4 true true false) ∷
+    card (EstaexCt 1 false true false) ∷
+    card (Abend (Sys 0x0C1) None false false) ∷
+    labelled_line (codes "BACK    ") Nop ∷
+    []) ∷
+    program (codes "R1      ") (
+    card (EstaexCt 2 false true false) ∷
+    card (Abend (User 1) None false false) ∷
+    []) ∷
+    program (codes "R2      ") (
+    card (EstaexCt 3 false true false) ∷
+    card Nop ∷
+    card (Abend (User 2) None false false) ∷
+    []) ∷
+    program (codes "R3      ") (
+    []) ∷
+    program (codes "KEEP    ") (
+    card (SetRp (setrp (Some 4) (Some (codes "BACK    ")) None None None None None None)) ∷
+    []) ∷
+    []) (
+    task (codes "JOB     ") 0 ∷
+    []) (cancel 0 8 false ∷ [])
 
 abbrev pub history : List Entry
 history =

@@ -5,27 +5,23 @@ use Rattle.rtm_deck_items.specs.View.{DeckView}
 use Rattle.rtm_deck_items.specs.declared.op.Op.TheVariants.{FrrAdd, FrrDelete, Nop, Return}
 use Rattle.rtm_model.specs.declared.entry.Entry.{Entry}
 use Rattle.rtm_model.specs.declared.entry.Fate.TheVariants.{Merged, Queued}
-use Rattle.rtm_model_rows.specs.Writing.{arrive, begin, cancel, card, exec, full_mark, land, memend, plain_done, program, task}
+use Rattle.rtm_model_rows.specs.Writing.{arrive, begin, cancel, card, deck_of, exec, full_mark, land, memend, plain_done, program, task}
 use Rattle.rtm_model.specs.declared.entry.Class.TheVariants as classes
 
 abbrev pub deck : DeckView
-deck = record {
-  limit = 20000;
-  programs =
-      program (codes "MAIN    ") (
-      card (FrrAdd 1) ∷
-      card Nop ∷
-      card FrrDelete ∷
-      card Return ∷
-      []) ∷
-      program (codes "F       ") (
-      []) ∷
-      [];
-  units =
-      task (codes "JOB     ") 0 ∷
-      [];
-  commands = cancel 0 1 false ∷ cancel 0 1 false ∷ [];
-}
+deck =
+    deck_of 20000 (
+    program (codes "MAIN    ") (
+    card (FrrAdd 1) ∷
+    card Nop ∷
+    card FrrDelete ∷
+    card Return ∷
+    []) ∷
+    program (codes "F       ") (
+    []) ∷
+    []) (
+    task (codes "JOB     ") 0 ∷
+    []) (cancel 0 1 false ∷ cancel 0 1 false ∷ [])
 
 abbrev pub history : List Entry
 history =

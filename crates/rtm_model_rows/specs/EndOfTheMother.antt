@@ -4,26 +4,22 @@ use Rattle.rtm_codes.specs.declared.code.Code.TheVariants.{Sys}
 use Rattle.rtm_deck_items.specs.View.{DeckView}
 use Rattle.rtm_deck_items.specs.declared.op.Op.TheVariants.{Attachx, Wait}
 use Rattle.rtm_model.specs.declared.entry.Entry.{Entry}
-use Rattle.rtm_model_rows.specs.Writing.{begin, card, exec, full_mark, land, memend, plain_done, program, task}
+use Rattle.rtm_model_rows.specs.Writing.{begin, card, deck_of, exec, full_mark, land, memend, plain_done, program, task}
 use Rattle.rtm_model.specs.declared.entry.Class.TheVariants as classes
 
 abbrev pub deck : DeckView
-deck = record {
-  limit = 20000;
-  programs =
-      program (codes "MAIN    ") (
-      card (Attachx 1 None false) ∷
-      []) ∷
-      program (codes "PA      ") (
-      card (Wait 3) ∷
-      []) ∷
-      [];
-  units =
-      task (codes "JOB     ") 0 ∷
-      task (codes "A       ") 1 ∷
-      [];
-  commands = [];
-}
+deck =
+    deck_of 20000 (
+    program (codes "MAIN    ") (
+    card (Attachx 1 None false) ∷
+    []) ∷
+    program (codes "PA      ") (
+    card (Wait 3) ∷
+    []) ∷
+    []) (
+    task (codes "JOB     ") 0 ∷
+    task (codes "A       ") 1 ∷
+    []) []
 
 abbrev pub history : List Entry
 history =

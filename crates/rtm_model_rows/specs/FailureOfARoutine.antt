@@ -6,28 +6,24 @@ use Rattle.rtm_deck_items.specs.declared.op.Op.TheVariants.{Abend, EstaexCt}
 use Rattle.rtm_model.specs.declared.entry.Entry.{Entry}
 use Rattle.rtm_model.specs.declared.entry.Verdict.TheVariants.{Fail, Perc}
 use Rattle.rtm_model.specs.declared.reg.Kind.TheVariants.{Estae}
-use Rattle.rtm_model_rows.specs.Writing.{begin, card, enter, error, exec, full_mark, leave, mark, memend, plain_done, program, task}
+use Rattle.rtm_model_rows.specs.Writing.{begin, card, deck_of, enter, error, exec, full_mark, leave, mark, memend, plain_done, program, task}
 
 abbrev pub deck : DeckView
-deck = record {
-  limit = 20000;
-  programs =
-      program (codes "MAIN    ") (
-      card (EstaexCt 2 false true false) ∷
-      card (EstaexCt 1 false true false) ∷
-      card (Abend (Sys 0x0C1) None false false) ∷
-      []) ∷
-      program (codes "OUTER   ") (
-      card (Abend (User 7) None false false) ∷
-      []) ∷
-      program (codes "LAST    ") (
-      []) ∷
-      [];
-  units =
-      task (codes "JOB     ") 0 ∷
-      [];
-  commands = [];
-}
+deck =
+    deck_of 20000 (
+    program (codes "MAIN    ") (
+    card (EstaexCt 2 false true false) ∷
+    card (EstaexCt 1 false true false) ∷
+    card (Abend (Sys 0x0C1) None false false) ∷
+    []) ∷
+    program (codes "OUTER   ") (
+    card (Abend (User 7) None false false) ∷
+    []) ∷
+    program (codes "LAST    ") (
+    []) ∷
+    []) (
+    task (codes "JOB     ") 0 ∷
+    []) []
 
 abbrev pub history : List Entry
 history =

@@ -6,35 +6,31 @@ use Rattle.rtm_deck_items.specs.declared.op.Op.TheVariants.{Abend, Attachx, Wait
 use Rattle.rtm_model.specs.declared.entry.Entry.{Entry}
 use Rattle.rtm_model.specs.declared.entry.Verdict.TheVariants.{Perc}
 use Rattle.rtm_model.specs.declared.reg.Kind.TheVariants.{Estai}
-use Rattle.rtm_model_rows.specs.Writing.{begin, card, enter, error, exec, full_mark, leave, mark, memend, plain_done, program, task}
+use Rattle.rtm_model_rows.specs.Writing.{begin, card, deck_of, enter, error, exec, full_mark, leave, mark, memend, plain_done, program, task}
 
 abbrev pub deck : DeckView
-deck = record {
-  limit = 20000;
-  programs =
-      program (codes "MAIN    ") (
-      card (Attachx 1 (Some 3) false) ∷
-      card (WaitTask 1) ∷
-      []) ∷
-      program (codes "PA      ") (
-      card (Attachx 2 (Some 4) false) ∷
-      card (WaitTask 2) ∷
-      []) ∷
-      program (codes "PB      ") (
-      card (Abend (Sys 0x0C7) None false false) ∷
-      []) ∷
-      program (codes "E1      ") (
-      []) ∷
-      program (codes "E2      ") (
-      []) ∷
-      [];
-  units =
-      task (codes "JOB     ") 0 ∷
-      task (codes "A       ") 1 ∷
-      task (codes "B       ") 2 ∷
-      [];
-  commands = [];
-}
+deck =
+    deck_of 20000 (
+    program (codes "MAIN    ") (
+    card (Attachx 1 (Some 3) false) ∷
+    card (WaitTask 1) ∷
+    []) ∷
+    program (codes "PA      ") (
+    card (Attachx 2 (Some 4) false) ∷
+    card (WaitTask 2) ∷
+    []) ∷
+    program (codes "PB      ") (
+    card (Abend (Sys 0x0C7) None false false) ∷
+    []) ∷
+    program (codes "E1      ") (
+    []) ∷
+    program (codes "E2      ") (
+    []) ∷
+    []) (
+    task (codes "JOB     ") 0 ∷
+    task (codes "A       ") 1 ∷
+    task (codes "B       ") 2 ∷
+    []) []
 
 abbrev pub history : List Entry
 history =

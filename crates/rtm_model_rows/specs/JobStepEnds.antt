@@ -5,27 +5,23 @@ use Rattle.rtm_deck_items.specs.View.{DeckView}
 use Rattle.rtm_deck_items.specs.declared.op.Op.TheVariants.{Abend, Attachx, WaitTask}
 use Rattle.rtm_model.specs.declared.entry.Entry.{Entry}
 use Rattle.rtm_model.specs.declared.entry.Fate.TheVariants.{Queued}
-use Rattle.rtm_model_rows.specs.Writing.{begin, card, done_with, error, exec, full_mark, land, mark, memend, plain_done, program, task}
+use Rattle.rtm_model_rows.specs.Writing.{begin, card, deck_of, done_with, error, exec, full_mark, land, mark, memend, plain_done, program, task}
 use Rattle.rtm_model.specs.declared.entry.Class.TheVariants as classes
 
 abbrev pub deck : DeckView
-deck = record {
-  limit = 20000;
-  programs =
-      program (codes "MAIN    ") (
-      card (Attachx 1 None false) ∷
-      card (WaitTask 1) ∷
-      []) ∷
-      program (codes "PA      ") (
-      card (Abend (User 3) None false true) ∷
-      []) ∷
-      [];
-  units =
-      task (codes "JOB     ") 0 ∷
-      task (codes "A       ") 1 ∷
-      [];
-  commands = [];
-}
+deck =
+    deck_of 20000 (
+    program (codes "MAIN    ") (
+    card (Attachx 1 None false) ∷
+    card (WaitTask 1) ∷
+    []) ∷
+    program (codes "PA      ") (
+    card (Abend (User 3) None false true) ∷
+    []) ∷
+    []) (
+    task (codes "JOB     ") 0 ∷
+    task (codes "A       ") 1 ∷
+    []) []
 
 abbrev pub history : List Entry
 history =

@@ -25,3 +25,14 @@ pub mod JobStepEnds
 pub mod NormalEnd
 pub mod TwoAborts
 pub mod AbtermWithoutRetry
+pub mod BareRoutine
+pub mod SetrpInABareRoutine
+pub mod BareEstai
+pub mod FrrBesideABareEstae
+pub mod RoutineOfABareRoutine
+pub mod Ret15OutsideARoutine
+pub mod Ret15InAManager
+pub mod Ret15InAWholeRoutine
+pub mod DenseRecovery
+pub mod DenseAborts
+pub mod DenseLimits

@@ -5,31 +5,27 @@ use Rattle.rtm_deck_items.specs.View.{DeckView}
 use Rattle.rtm_deck_items.specs.declared.op.Op.TheVariants.{FrrAdd, Link, Nop, Schedule}
 use Rattle.rtm_model.specs.declared.entry.Entry.{Entry}
 use Rattle.rtm_model.specs.declared.reg.Kind.TheVariants.{Frr}
-use Rattle.rtm_model_rows.specs.Writing.{begin, card, enter, error, exec, mark, memend, plain_done, program, purge, srb, task}
+use Rattle.rtm_model_rows.specs.Writing.{begin, card, deck_of, enter, error, exec, mark, memend, plain_done, program, purge, srb, task}
 
 abbrev pub deck : DeckView
-deck = record {
-  limit = 20000;
-  programs =
-      program (codes "MAIN    ") (
-      card (Schedule 1) ∷
-      card Nop ∷
-      []) ∷
-      program (codes "PS      ") (
-      card (FrrAdd 2) ∷
-      card (Link 3) ∷
-      []) ∷
-      program (codes "F       ") (
-      []) ∷
-      program (codes "F2      ") (
-      []) ∷
-      [];
-  units =
-      task (codes "JOB     ") 0 ∷
-      srb (codes "S       ") 1 None ∷
-      [];
-  commands = [];
-}
+deck =
+    deck_of 20000 (
+    program (codes "MAIN    ") (
+    card (Schedule 1) ∷
+    card Nop ∷
+    []) ∷
+    program (codes "PS      ") (
+    card (FrrAdd 2) ∷
+    card (Link 3) ∷
+    []) ∷
+    program (codes "F       ") (
+    []) ∷
+    program (codes "F2      ") (
+    []) ∷
+    []) (
+    task (codes "JOB     ") 0 ∷
+    srb (codes "S       ") 1 None ∷
+    []) []
 
 abbrev pub history : List Entry
 history =

@@ -7,26 +7,22 @@ use Rattle.rtm_deck_operands.specs.declared.value.Res.TheVariants.{Enq, Timr}
 use Rattle.rtm_model.specs.declared.entry.Entry.{Entry}
 use Rattle.rtm_model.specs.declared.entry.Verdict.TheVariants.{Fail}
 use Rattle.rtm_model.specs.declared.reg.Kind.TheVariants.{Mgr}
-use Rattle.rtm_model_rows.specs.Writing.{begin, card, enter, error, exec, leave, mark, memend, plain_done, program, release, task}
+use Rattle.rtm_model_rows.specs.Writing.{begin, card, deck_of, enter, error, exec, leave, mark, memend, plain_done, program, release, task}
 
 abbrev pub deck : DeckView
-deck = record {
-  limit = 20000;
-  programs =
-      program (codes "MAIN    ") (
-      card (MgrAdd 1 false) ∷
-      card (Get Timr 4) ∷
-      []) ∷
-      program (codes "M       ") (
-      card (Get Enq 8) ∷
-      card (Abend (User 1) None false false) ∷
-      []) ∷
-      [];
-  units =
-      task (codes "JOB     ") 0 ∷
-      [];
-  commands = [];
-}
+deck =
+    deck_of 20000 (
+    program (codes "MAIN    ") (
+    card (MgrAdd 1 false) ∷
+    card (Get Timr 4) ∷
+    []) ∷
+    program (codes "M       ") (
+    card (Get Enq 8) ∷
+    card (Abend (User 1) None false false) ∷
+    []) ∷
+    []) (
+    task (codes "JOB     ") 0 ∷
+    []) []
 
 abbrev pub history : List Entry
 history =

@@ -6,37 +6,33 @@ use Rattle.rtm_deck_items.specs.declared.op.Op.TheVariants.{Abend, Attachx, Esta
 use Rattle.rtm_deck_operands.specs.declared.value.Res.TheVariants.{Dsn, Enq, Stor}
 use Rattle.rtm_model.specs.declared.entry.Entry.{Entry}
 use Rattle.rtm_model.specs.declared.reg.Kind.TheVariants.{Estae}
-use Rattle.rtm_model_rows.specs.Writing.{card, enter, error, exec, mark, memend, program, purge, release, task}
+use Rattle.rtm_model_rows.specs.Writing.{card, deck_of, enter, error, exec, mark, memend, program, purge, release, task}
 
 abbrev pub deck : DeckView
-deck = record {
-  limit = 20000;
-  programs =
-      program (codes "MAIN    ") (
-      card (Get Enq 1) ∷
-      card (Get Dsn 7) ∷
-      card (Attachx 1 None false) ∷
-      card (Wait 1) ∷
-      card (Memterm (User 99)) ∷
-      []) ∷
-      program (codes "PA      ") (
-      card (Get Enq 2) ∷
-      card (Get Stor 5) ∷
-      card (Get Enq 2) ∷
-      card (EstaexCt 2 false true false) ∷
-      card (Abend (Sys 0x0C1) None false false) ∷
-      []) ∷
-      program (codes "R       ") (
-      card (Post 1) ∷
-      card (Wait 2) ∷
-      []) ∷
-      [];
-  units =
-      task (codes "JOB     ") 0 ∷
-      task (codes "A       ") 1 ∷
-      [];
-  commands = [];
-}
+deck =
+    deck_of 20000 (
+    program (codes "MAIN    ") (
+    card (Get Enq 1) ∷
+    card (Get Dsn 7) ∷
+    card (Attachx 1 None false) ∷
+    card (Wait 1) ∷
+    card (Memterm (User 99)) ∷
+    []) ∷
+    program (codes "PA      ") (
+    card (Get Enq 2) ∷
+    card (Get Stor 5) ∷
+    card (Get Enq 2) ∷
+    card (EstaexCt 2 false true false) ∷
+    card (Abend (Sys 0x0C1) None false false) ∷
+    []) ∷
+    program (codes "R       ") (
+    card (Post 1) ∷
+    card (Wait 2) ∷
+    []) ∷
+    []) (
+    task (codes "JOB     ") 0 ∷
+    task (codes "A       ") 1 ∷
+    []) []
 
 abbrev pub history : List Entry
 history =

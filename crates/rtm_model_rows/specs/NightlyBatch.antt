@@ -9,60 +9,56 @@ use Rattle.rtm_model.specs.declared.entry.Entry.{Entry}
 use Rattle.rtm_model.specs.declared.entry.Fate.TheVariants.{Queued}
 use Rattle.rtm_model.specs.declared.entry.Verdict.TheVariants.{Perc}
 use Rattle.rtm_model.specs.declared.reg.Kind.TheVariants.{Estae, Estai}
-use Rattle.rtm_model_rows.specs.Writing.{arrive, begin, cancel, card, enter, error, exec, full_mark, labelled_line, land, leave, leave_with, mark, memend, plain_done, program, release, retry, setrp, task}
+use Rattle.rtm_model_rows.specs.Writing.{arrive, begin, cancel, card, deck_of, enter, error, exec, full_mark, labelled_line, land, leave, leave_with, mark, memend, plain_done, program, release, retry, setrp, task}
 use Rattle.rtm_model.specs.declared.entry.Class.TheVariants as classes
 
 abbrev pub deck : DeckView
-deck = record {
-  limit = 20000;
-  programs =
-      program (codes "MAIN    ") (
-      card (Get Enq 100) ∷
-      card (EstaexCt 5 true true false) ∷
-      card (Attachx 1 (Some 6) false) ∷
-      card (Attachx 2 (Some 6) true) ∷
-      card (Attachx 3 None false) ∷
-      card (WaitTask 1) ∷
-      card (WaitTask 2) ∷
-      card (WaitTask 3) ∷
-      card (Free Enq 100) ∷
-      card Return ∷
-      []) ∷
-      program (codes "READER  ") (
-      card (Get Dsn 1) ∷
-      card (EstaexCt 4 false true false) ∷
-      card (Abend (Sys 0x0C4) (Some 16) false false) ∷
-      labelled_line (codes "GOON    ") (Free Dsn 1) ∷
-      card (Post 1) ∷
-      card Return ∷
-      []) ∷
-      program (codes "CALCPGM ") (
-      card (Get Stor 64) ∷
-      card (Wait 2) ∷
-      card Return ∷
-      []) ∷
-      program (codes "PRINTER ") (
-      card (Get Dsn 2) ∷
-      card (Wait 1) ∷
-      card (Abend (User 20) None true false) ∷
-      []) ∷
-      program (codes "READREC ") (
-      card (SetRp (setrp (Some 4) (Some (codes "GOON    ")) None None None None (Some Yes) None)) ∷
-      []) ∷
-      program (codes "MAINREC ") (
-      []) ∷
-      program (codes "WATCH   ") (
-      card Nop ∷
-      []) ∷
-      [];
-  units =
-      task (codes "JOB     ") 0 ∷
-      task (codes "READ    ") 1 ∷
-      task (codes "CALC    ") 2 ∷
-      task (codes "PRINT   ") 3 ∷
-      [];
-  commands = cancel 2 30 false ∷ [];
-}
+deck =
+    deck_of 20000 (
+    program (codes "MAIN    ") (
+    card (Get Enq 100) ∷
+    card (EstaexCt 5 true true false) ∷
+    card (Attachx 1 (Some 6) false) ∷
+    card (Attachx 2 (Some 6) true) ∷
+    card (Attachx 3 None false) ∷
+    card (WaitTask 1) ∷
+    card (WaitTask 2) ∷
+    card (WaitTask 3) ∷
+    card (Free Enq 100) ∷
+    card Return ∷
+    []) ∷
+    program (codes "READER  ") (
+    card (Get Dsn 1) ∷
+    card (EstaexCt 4 false true false) ∷
+    card (Abend (Sys 0x0C4) (Some 16) false false) ∷
+    labelled_line (codes "GOON    ") (Free Dsn 1) ∷
+    card (Post 1) ∷
+    card Return ∷
+    []) ∷
+    program (codes "CALCPGM ") (
+    card (Get Stor 64) ∷
+    card (Wait 2) ∷
+    card Return ∷
+    []) ∷
+    program (codes "PRINTER ") (
+    card (Get Dsn 2) ∷
+    card (Wait 1) ∷
+    card (Abend (User 20) None true false) ∷
+    []) ∷
+    program (codes "READREC ") (
+    card (SetRp (setrp (Some 4) (Some (codes "GOON    ")) None None None None (Some Yes) None)) ∷
+    []) ∷
+    program (codes "MAINREC ") (
+    []) ∷
+    program (codes "WATCH   ") (
+    card Nop ∷
+    []) ∷
+    []) (
+    task (codes "JOB     ") 0 ∷
+    task (codes "READ    ") 1 ∷
+    task (codes "CALC    ") 2 ∷
+    task (codes "PRINT   ") 3 ∷
+    []) (cancel 2 30 false ∷ [])
 
 abbrev pub history : List Entry
 history =

@@ -4,22 +4,18 @@ use Rattle.rtm_codes.specs.declared.code.Code.TheVariants.{Sys}
 use Rattle.rtm_deck_items.specs.View.{DeckView}
 use Rattle.rtm_deck_items.specs.declared.op.Op.TheVariants.{Nop, Return}
 use Rattle.rtm_model.specs.declared.entry.Entry.{Entry}
-use Rattle.rtm_model_rows.specs.Writing.{begin, card, exec, memend, plain_done, program, task}
+use Rattle.rtm_model_rows.specs.Writing.{begin, card, deck_of, exec, memend, plain_done, program, task}
 
 abbrev pub deck : DeckView
-deck = record {
-  limit = 20000;
-  programs =
-      program (codes "MAIN    ") (
-      card Nop ∷
-      card Return ∷
-      []) ∷
-      [];
-  units =
-      task (codes "JOB     ") 0 ∷
-      [];
-  commands = [];
-}
+deck =
+    deck_of 20000 (
+    program (codes "MAIN    ") (
+    card Nop ∷
+    card Return ∷
+    []) ∷
+    []) (
+    task (codes "JOB     ") 0 ∷
+    []) []
 
 abbrev pub history : List Entry
 history =

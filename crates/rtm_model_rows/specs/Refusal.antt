@@ -3,7 +3,7 @@ use Rattle.std.specs.Prelude.{List, Option, [], ◌++◌, ◌∷◌, ◌≡◌}
 use Rattle.std.specs.Option.{option_map}
 use Rattle.rtm_deck_items.specs.View.{DeckView}
 use Rattle.rtm_model.specs.declared.entry.Entry.{Entry}
-use Rattle.rtm_model.specs.Births.{world}
+use Rattle.rtm_model.specs.Advance.{world}
 use Rattle.rtm_model.specs.Legal.{Legal}
 use Rattle.rtm_model.specs.NextEntry.{next}
 

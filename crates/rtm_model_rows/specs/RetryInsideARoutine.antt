@@ -5,31 +5,27 @@ use Rattle.rtm_deck_items.specs.View.{DeckView}
 use Rattle.rtm_deck_items.specs.declared.op.Op.TheVariants.{Abend, EstaexCt, Nop, SetRp}
 use Rattle.rtm_model.specs.declared.entry.Entry.{Entry}
 use Rattle.rtm_model.specs.declared.reg.Kind.TheVariants.{Estae}
-use Rattle.rtm_model_rows.specs.Writing.{begin, card, enter, error, exec, labelled_line, leave, mark, memend, plain_done, program, retry, setrp, task}
+use Rattle.rtm_model_rows.specs.Writing.{begin, card, deck_of, enter, error, exec, labelled_line, leave, mark, memend, plain_done, program, retry, setrp, task}
 
 abbrev pub deck : DeckView
-deck = record {
-  limit = 20000;
-  programs =
-      program (codes "MAIN    ") (
-      card (EstaexCt 1 false true false) ∷
-      card (Abend (Sys 0x0C1) None false false) ∷
-      labelled_line (codes "BACK    ") Nop ∷
-      []) ∷
-      program (codes "OUTER   ") (
-      card (EstaexCt 2 false true false) ∷
-      card (Abend (User 7) None false false) ∷
-      labelled_line (codes "GO      ") (SetRp (setrp (Some 4) (Some (codes "BACK    ")) None None None None None None)) ∷
-      []) ∷
-      program (codes "INNER   ") (
-      card (SetRp (setrp (Some 4) (Some (codes "GO      ")) None None None None None None)) ∷
-      []) ∷
-      [];
-  units =
-      task (codes "JOB     ") 0 ∷
-      [];
-  commands = [];
-}
+deck =
+    deck_of 20000 (
+    program (codes "MAIN    ") (
+    card (EstaexCt 1 false true false) ∷
+    card (Abend (Sys 0x0C1) None false false) ∷
+    labelled_line (codes "BACK    ") Nop ∷
+    []) ∷
+    program (codes "OUTER   ") (
+    card (EstaexCt 2 false true false) ∷
+    card (Abend (User 7) None false false) ∷
+    labelled_line (codes "GO      ") (SetRp (setrp (Some 4) (Some (codes "BACK    ")) None None None None None None)) ∷
+    []) ∷
+    program (codes "INNER   ") (
+    card (SetRp (setrp (Some 4) (Some (codes "GO      ")) None None None None None None)) ∷
+    []) ∷
+    []) (
+    task (codes "JOB     ") 0 ∷
+    []) []
 
 abbrev pub history : List Entry
 history =

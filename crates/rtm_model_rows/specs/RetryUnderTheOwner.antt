@@ -5,35 +5,31 @@ use Rattle.rtm_deck_items.specs.View.{DeckView}
 use Rattle.rtm_deck_items.specs.declared.op.Op.TheVariants.{Abend, EstaexCt, Link, Nop, SetRp}
 use Rattle.rtm_model.specs.declared.entry.Entry.{Entry}
 use Rattle.rtm_model.specs.declared.reg.Kind.TheVariants.{Estae}
-use Rattle.rtm_model_rows.specs.Writing.{begin, card, enter, error, exec, labelled_line, leave, mark, memend, plain_done, program, retry, setrp, task}
+use Rattle.rtm_model_rows.specs.Writing.{begin, card, deck_of, enter, error, exec, labelled_line, leave, mark, memend, plain_done, program, retry, setrp, task}
 
 abbrev pub deck : DeckView
-deck = record {
-  limit = 20000;
-  programs =
-      program (codes "MAIN    ") (
-      card (EstaexCt 4 false true false) ∷
-      card (Link 1) ∷
-      labelled_line (codes "OUT     ") Nop ∷
-      []) ∷
-      program (codes "A       ") (
-      card (Link 2) ∷
-      []) ∷
-      program (codes "B       ") (
-      card (Link 3) ∷
-      []) ∷
-      program (codes "C       ") (
-      card (Abend (Sys 0x0C4) None false false) ∷
-      []) ∷
-      program (codes "REC     ") (
-      card (SetRp (setrp (Some 4) (Some (codes "OUT     ")) None None None None None None)) ∷
-      []) ∷
-      [];
-  units =
-      task (codes "JOB     ") 0 ∷
-      [];
-  commands = [];
-}
+deck =
+    deck_of 20000 (
+    program (codes "MAIN    ") (
+    card (EstaexCt 4 false true false) ∷
+    card (Link 1) ∷
+    labelled_line (codes "OUT     ") Nop ∷
+    []) ∷
+    program (codes "A       ") (
+    card (Link 2) ∷
+    []) ∷
+    program (codes "B       ") (
+    card (Link 3) ∷
+    []) ∷
+    program (codes "C       ") (
+    card (Abend (Sys 0x0C4) None false false) ∷
+    []) ∷
+    program (codes "REC     ") (
+    card (SetRp (setrp (Some 4) (Some (codes "OUT     ")) None None None None None None)) ∷
+    []) ∷
+    []) (
+    task (codes "JOB     ") 0 ∷
+    []) []
 
 abbrev pub history : List Entry
 history =

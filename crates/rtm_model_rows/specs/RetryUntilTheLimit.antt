@@ -6,30 +6,26 @@ use Rattle.rtm_deck_items.specs.declared.op.Op.TheVariants.{Abend, EstaexCt, Set
 use Rattle.rtm_model.specs.declared.entry.Entry.{Entry}
 use Rattle.rtm_model.specs.declared.entry.Verdict.TheVariants.{Perc}
 use Rattle.rtm_model.specs.declared.reg.Kind.TheVariants.{Estae}
-use Rattle.rtm_model_rows.specs.Writing.{card, enter, error, exec, full_mark, labelled_line, leave, mark, program, retry, setrp, task}
+use Rattle.rtm_model_rows.specs.Writing.{card, deck_of, enter, error, exec, full_mark, labelled_line, leave, mark, program, retry, setrp, task}
 
 abbrev pub deck : DeckView
-deck = record {
-  limit = 10;
-  programs =
-      program (codes "MAIN    ") (
-      card (EstaexCt 1 false true false) ∷
-      card (EstaexCt 2 false true false) ∷
-      labelled_line (codes "AGAIN   ") (Abend (Sys 0x0C1) None false false) ∷
-      card (Abend (Sys 0x0C4) None false false) ∷
-      []) ∷
-      program (codes "OLD     ") (
-      card (SetRp (setrp (Some 4) (Some (codes "AGAIN   ")) (Some false) None None None None None)) ∷
-      []) ∷
-      program (codes "NEW     ") (
-      card (SetRp (setrp (Some 0) None None None None None None None)) ∷
-      []) ∷
-      [];
-  units =
-      task (codes "JOB     ") 0 ∷
-      [];
-  commands = [];
-}
+deck =
+    deck_of 10 (
+    program (codes "MAIN    ") (
+    card (EstaexCt 1 false true false) ∷
+    card (EstaexCt 2 false true false) ∷
+    labelled_line (codes "AGAIN   ") (Abend (Sys 0x0C1) None false false) ∷
+    card (Abend (Sys 0x0C4) None false false) ∷
+    []) ∷
+    program (codes "OLD     ") (
+    card (SetRp (setrp (Some 4) (Some (codes "AGAIN   ")) (Some false) None None None None None)) ∷
+    []) ∷
+    program (codes "NEW     ") (
+    card (SetRp (setrp (Some 0) None None None None None None None)) ∷
+    []) ∷
+    []) (
+    task (codes "JOB     ") 0 ∷
+    []) []
 
 abbrev pub history : List Entry
 history =

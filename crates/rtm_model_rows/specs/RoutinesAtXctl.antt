@@ -6,30 +6,26 @@ use Rattle.rtm_deck_items.specs.declared.op.Op.TheVariants.{Abend, EstaexCt, Xct
 use Rattle.rtm_model.specs.declared.entry.Entry.{Entry}
 use Rattle.rtm_model.specs.declared.entry.Verdict.TheVariants.{Perc}
 use Rattle.rtm_model.specs.declared.reg.Kind.TheVariants.{Estae}
-use Rattle.rtm_model_rows.specs.Writing.{begin, card, enter, error, exec, leave, mark, memend, plain_done, program, task}
+use Rattle.rtm_model_rows.specs.Writing.{begin, card, deck_of, enter, error, exec, leave, mark, memend, plain_done, program, task}
 
 abbrev pub deck : DeckView
-deck = record {
-  limit = 20000;
-  programs =
-      program (codes "MAIN    ") (
-      card (EstaexCt 2 false true false) ∷
-      card (EstaexCt 3 false true true) ∷
-      card (Xctl 1) ∷
-      []) ∷
-      program (codes "SUB     ") (
-      card (Abend (User 5) None false false) ∷
-      []) ∷
-      program (codes "A       ") (
-      []) ∷
-      program (codes "B       ") (
-      []) ∷
-      [];
-  units =
-      task (codes "JOB     ") 0 ∷
-      [];
-  commands = [];
-}
+deck =
+    deck_of 20000 (
+    program (codes "MAIN    ") (
+    card (EstaexCt 2 false true false) ∷
+    card (EstaexCt 3 false true true) ∷
+    card (Xctl 1) ∷
+    []) ∷
+    program (codes "SUB     ") (
+    card (Abend (User 5) None false false) ∷
+    []) ∷
+    program (codes "A       ") (
+    []) ∷
+    program (codes "B       ") (
+    []) ∷
+    []) (
+    task (codes "JOB     ") 0 ∷
+    []) []
 
 abbrev pub history : List Entry
 history =

@@ -6,39 +6,35 @@ use Rattle.rtm_deck_items.specs.declared.op.Op.TheVariants.{FrrAdd}
 use Rattle.rtm_model.specs.declared.entry.Entry.{Entry}
 use Rattle.rtm_model.specs.declared.entry.Verdict.TheVariants.{Perc}
 use Rattle.rtm_model.specs.declared.reg.Kind.TheVariants.{Frr}
-use Rattle.rtm_model_rows.specs.Writing.{begin, card, enter, error, exec, full_mark, leave, mark, memend, plain_done, program, task}
+use Rattle.rtm_model_rows.specs.Writing.{begin, card, deck_of, enter, error, exec, full_mark, leave, mark, memend, plain_done, program, task}
 
 abbrev pub deck : DeckView
-deck = record {
-  limit = 20000;
-  programs =
-      program (codes "MAIN    ") (
-      card (FrrAdd 1) ∷
-      card (FrrAdd 1) ∷
-      card (FrrAdd 1) ∷
-      card (FrrAdd 1) ∷
-      card (FrrAdd 1) ∷
-      card (FrrAdd 1) ∷
-      card (FrrAdd 1) ∷
-      card (FrrAdd 1) ∷
-      card (FrrAdd 1) ∷
-      card (FrrAdd 1) ∷
-      card (FrrAdd 1) ∷
-      card (FrrAdd 1) ∷
-      card (FrrAdd 1) ∷
-      card (FrrAdd 1) ∷
-      card (FrrAdd 1) ∷
-      card (FrrAdd 1) ∷
-      card (FrrAdd 1) ∷
-      []) ∷
-      program (codes "F       ") (
-      []) ∷
-      [];
-  units =
-      task (codes "JOB     ") 0 ∷
-      [];
-  commands = [];
-}
+deck =
+    deck_of 20000 (
+    program (codes "MAIN    ") (
+    card (FrrAdd 1) ∷
+    card (FrrAdd 1) ∷
+    card (FrrAdd 1) ∷
+    card (FrrAdd 1) ∷
+    card (FrrAdd 1) ∷
+    card (FrrAdd 1) ∷
+    card (FrrAdd 1) ∷
+    card (FrrAdd 1) ∷
+    card (FrrAdd 1) ∷
+    card (FrrAdd 1) ∷
+    card (FrrAdd 1) ∷
+    card (FrrAdd 1) ∷
+    card (FrrAdd 1) ∷
+    card (FrrAdd 1) ∷
+    card (FrrAdd 1) ∷
+    card (FrrAdd 1) ∷
+    card (FrrAdd 1) ∷
+    []) ∷
+    program (codes "F       ") (
+    []) ∷
+    []) (
+    task (codes "JOB     ") 0 ∷
+    []) []
 
 abbrev pub history : List Entry
 history =

@@ -6,26 +6,22 @@ use Rattle.rtm_deck_items.specs.declared.op.Op.TheVariants.{Abend, EstaexCt}
 use Rattle.rtm_model.specs.declared.entry.Entry.{Entry}
 use Rattle.rtm_model.specs.declared.entry.Verdict.TheVariants.{Fail}
 use Rattle.rtm_model.specs.declared.reg.Kind.TheVariants.{Estae}
-use Rattle.rtm_model_rows.specs.Writing.{begin, card, enter, error, exec, leave, mark, memend, plain_done, program, task}
+use Rattle.rtm_model_rows.specs.Writing.{begin, card, deck_of, enter, error, exec, leave, mark, memend, plain_done, program, task}
 
 abbrev pub deck : DeckView
-deck = record {
-  limit = 20000;
-  programs =
-      program (codes "MAIN    ") (
-      card (EstaexCt 1 false true false) ∷
-      card (Abend (User 1) None false false) ∷
-      []) ∷
-      program (codes "REC     ") (
-      card (EstaexCt 1 false true false) ∷
-      card (Abend (User 1) None false false) ∷
-      []) ∷
-      [];
-  units =
-      task (codes "JOB     ") 0 ∷
-      [];
-  commands = [];
-}
+deck =
+    deck_of 20000 (
+    program (codes "MAIN    ") (
+    card (EstaexCt 1 false true false) ∷
+    card (Abend (User 1) None false false) ∷
+    []) ∷
+    program (codes "REC     ") (
+    card (EstaexCt 1 false true false) ∷
+    card (Abend (User 1) None false false) ∷
+    []) ∷
+    []) (
+    task (codes "JOB     ") 0 ∷
+    []) []
 
 abbrev pub history : List Entry
 history =

@@ -8,37 +8,33 @@ use Rattle.rtm_model.specs.declared.entry.Entry.{Entry}
 use Rattle.rtm_model.specs.declared.entry.Fate.TheVariants.{Late}
 use Rattle.rtm_model.specs.declared.entry.Verdict.TheVariants.{Perc}
 use Rattle.rtm_model.specs.declared.reg.Kind.TheVariants.{Frr}
-use Rattle.rtm_model_rows.specs.Writing.{begin, card, done_with, enter, error, exec, leave, mark, memend, plain_done, program, release, srb, task}
+use Rattle.rtm_model_rows.specs.Writing.{begin, card, deck_of, done_with, enter, error, exec, leave, mark, memend, plain_done, program, release, srb, task}
 
 abbrev pub deck : DeckView
-deck = record {
-  limit = 20000;
-  programs =
-      program (codes "MAIN    ") (
-      card (Attachx 1 None false) ∷
-      card (Schedule 2) ∷
-      card (Wait 5) ∷
-      card Nop ∷
-      card Nop ∷
-      []) ∷
-      program (codes "PT      ") (
-      card (Get Enq 1) ∷
-      []) ∷
-      program (codes "PS      ") (
-      card (FrrAdd 3) ∷
-      card (Abend (Sys 0x0C4) None false false) ∷
-      []) ∷
-      program (codes "F       ") (
-      card (Post 5) ∷
-      []) ∷
-      [];
-  units =
-      task (codes "JOB     ") 0 ∷
-      task (codes "T       ") 1 ∷
-      srb (codes "S       ") 2 (Some 1) ∷
-      [];
-  commands = [];
-}
+deck =
+    deck_of 20000 (
+    program (codes "MAIN    ") (
+    card (Attachx 1 None false) ∷
+    card (Schedule 2) ∷
+    card (Wait 5) ∷
+    card Nop ∷
+    card Nop ∷
+    []) ∷
+    program (codes "PT      ") (
+    card (Get Enq 1) ∷
+    []) ∷
+    program (codes "PS      ") (
+    card (FrrAdd 3) ∷
+    card (Abend (Sys 0x0C4) None false false) ∷
+    []) ∷
+    program (codes "F       ") (
+    card (Post 5) ∷
+    []) ∷
+    []) (
+    task (codes "JOB     ") 0 ∷
+    task (codes "T       ") 1 ∷
+    srb (codes "S       ") 2 (Some 1) ∷
+    []) []
 
 abbrev pub history : List Entry
 history =

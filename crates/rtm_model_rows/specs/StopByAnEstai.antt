@@ -6,36 +6,32 @@ use Rattle.rtm_deck_items.specs.declared.op.Op.TheVariants.{Abend, Attachx, SetR
 use Rattle.rtm_model.specs.declared.entry.Entry.{Entry}
 use Rattle.rtm_model.specs.declared.entry.Verdict.TheVariants.{Stop}
 use Rattle.rtm_model.specs.declared.reg.Kind.TheVariants.{Estai}
-use Rattle.rtm_model_rows.specs.Writing.{begin, card, enter, error, exec, leave, mark, memend, plain_done, program, setrp, task}
+use Rattle.rtm_model_rows.specs.Writing.{begin, card, deck_of, enter, error, exec, leave, mark, memend, plain_done, program, setrp, task}
 
 abbrev pub deck : DeckView
-deck = record {
-  limit = 20000;
-  programs =
-      program (codes "MAIN    ") (
-      card (Attachx 1 (Some 3) false) ∷
-      card (WaitTask 1) ∷
-      []) ∷
-      program (codes "PA      ") (
-      card (Attachx 2 (Some 4) false) ∷
-      card (WaitTask 2) ∷
-      []) ∷
-      program (codes "PB      ") (
-      card (Abend (Sys 0x0C7) None false false) ∷
-      []) ∷
-      program (codes "E1      ") (
-      []) ∷
-      program (codes "E2      ") (
-      card (SetRp (setrp (Some 16) None None None None None None None)) ∷
-      []) ∷
-      [];
-  units =
-      task (codes "JOB     ") 0 ∷
-      task (codes "A       ") 1 ∷
-      task (codes "B       ") 2 ∷
-      [];
-  commands = [];
-}
+deck =
+    deck_of 20000 (
+    program (codes "MAIN    ") (
+    card (Attachx 1 (Some 3) false) ∷
+    card (WaitTask 1) ∷
+    []) ∷
+    program (codes "PA      ") (
+    card (Attachx 2 (Some 4) false) ∷
+    card (WaitTask 2) ∷
+    []) ∷
+    program (codes "PB      ") (
+    card (Abend (Sys 0x0C7) None false false) ∷
+    []) ∷
+    program (codes "E1      ") (
+    []) ∷
+    program (codes "E2      ") (
+    card (SetRp (setrp (Some 16) None None None None None None None)) ∷
+    []) ∷
+    []) (
+    task (codes "JOB     ") 0 ∷
+    task (codes "A       ") 1 ∷
+    task (codes "B       ") 2 ∷
+    []) []
 
 abbrev pub history : List Entry
 history =

@@ -6,39 +6,35 @@ use Rattle.rtm_deck_items.specs.declared.op.Op.TheVariants.{Attachx, EstaexCt, F
 use Rattle.rtm_model.specs.declared.entry.Entry.{Entry}
 use Rattle.rtm_model.specs.declared.entry.Verdict.TheVariants.{Fail}
 use Rattle.rtm_model.specs.declared.reg.Kind.TheVariants.{Estae}
-use Rattle.rtm_model_rows.specs.Writing.{begin, card, enter, exec, full_mark, land, leave, mark, memend, plain_done, program, task}
+use Rattle.rtm_model_rows.specs.Writing.{begin, card, deck_of, enter, exec, full_mark, land, leave, mark, memend, plain_done, program, task}
 use Rattle.rtm_deck_items.specs.declared.op.Op.TheVariants as ops
 use Rattle.rtm_model.specs.declared.entry.Class.TheVariants as classes
 
 abbrev pub deck : DeckView
-deck = record {
-  limit = 20000;
-  programs =
-      program (codes "MAIN    ") (
-      card (Attachx 1 None false) ∷
-      card (Wait 1) ∷
-      card (ops.Abterm 1 (User 5) None false true) ∷
-      card (ops.Detach 1 false) ∷
-      card (WaitTask 1) ∷
-      []) ∷
-      program (codes "PA      ") (
-      card (EstaexCt 2 false true false) ∷
-      card (FrrAdd 2) ∷
-      card (Post 1) ∷
-      card Nop ∷
-      card Nop ∷
-      card Nop ∷
-      card FrrPurge ∷
-      []) ∷
-      program (codes "R       ") (
-      []) ∷
-      [];
-  units =
-      task (codes "JOB     ") 0 ∷
-      task (codes "A       ") 1 ∷
-      [];
-  commands = [];
-}
+deck =
+    deck_of 20000 (
+    program (codes "MAIN    ") (
+    card (Attachx 1 None false) ∷
+    card (Wait 1) ∷
+    card (ops.Abterm 1 (User 5) None false true) ∷
+    card (ops.Detach 1 false) ∷
+    card (WaitTask 1) ∷
+    []) ∷
+    program (codes "PA      ") (
+    card (EstaexCt 2 false true false) ∷
+    card (FrrAdd 2) ∷
+    card (Post 1) ∷
+    card Nop ∷
+    card Nop ∷
+    card Nop ∷
+    card FrrPurge ∷
+    []) ∷
+    program (codes "R       ") (
+    []) ∷
+    []) (
+    task (codes "JOB     ") 0 ∷
+    task (codes "A       ") 1 ∷
+    []) []
 
 abbrev pub history : List Entry
 history =

@@ -1,7 +1,7 @@
 -- Words in which decks and histories are written here: units and programs by number, places by program and operation.
-use Rattle.std.specs.Prelude.{Bool, List, None, Option, Some, [], false, take, true, ℕ, ◌++◌, ◌∷◌}
+use Rattle.std.specs.Prelude.{Bool, List, None, Option, Some, [], false, suc, take, true, zero, ℕ, ◌+◌, ◌++◌, ◌∷◌}
 use Rattle.rtm_codes.specs.declared.code.Code.{Code}
-use Rattle.rtm_deck_items.specs.View.{ProgramView}
+use Rattle.rtm_deck_items.specs.View.{DeckView, ProgramView}
 use Rattle.rtm_deck_items.specs.declared.deck.Command.{Command}
 use Rattle.rtm_deck_items.specs.declared.deck.Line.{Line}
 use Rattle.rtm_deck_items.specs.declared.op.Op.{Op}
@@ -12,11 +12,12 @@ use Rattle.rtm_model.specs.declared.entry.Class.{Class}
 use Rattle.rtm_model.specs.declared.entry.Entry.{Entry}
 use Rattle.rtm_model.specs.declared.entry.Fate.{Fate}
 use Rattle.rtm_model.specs.declared.entry.Verdict.{Verdict}
-use Rattle.rtm_model.specs.declared.entry.Verdict.TheVariants.{Retry}
+use Rattle.rtm_model.specs.declared.entry.Verdict.TheVariants.{Over, Retry}
 use Rattle.rtm_model.specs.declared.entry.What.TheVariants.{Arrive, Begin, Done, Enter, Error, Exec, Land, Leave, MemEnd, Purge, Release}
 use Rattle.rtm_model.specs.declared.holding.Holding.{Holding}
 use Rattle.rtm_model.specs.declared.mark.Mark.{Mark}
 use Rattle.rtm_model.specs.declared.reg.Kind.{Kind}
+use Rattle.rtm_model.specs.declared.reg.Kind.TheVariants.{Mgr}
 use Rattle.rtm_model.specs.declared.reg.Reg.{Reg}
 use Rattle.rtm_model.specs.ChainLaw.{Leaving}
 use Rattle.rtm_model.specs.Entries.{Opening}
@@ -45,6 +46,24 @@ srb name prog related = record { name = name; kind = Srb; prog = prog; related =
 abbrev pub cancel : ℕ → ℕ → Bool → Command
 cancel target at dump = record { target = target; at = at; dump = dump }
 
+-- A deck: whether routines get an SDWA, the limit of entries, the programs, the units and the commands.
+abbrev pub deck_with : Bool → ℕ → List ProgramView → List UnitCard → List Command → DeckView
+deck_with sdwa limit programs units commands = record {
+  limit = limit;
+  sdwa = sdwa;
+  programs = programs;
+  units = units;
+  commands = commands;
+}
+
+-- one whose routines get an SDWA
+abbrev pub deck_of : ℕ → List ProgramView → List UnitCard → List Command → DeckView
+deck_of = deck_with true
+
+-- one whose ESTAE and ESTAI routines get none
+abbrev pub bare_deck_of : ℕ → List ProgramView → List UnitCard → List Command → DeckView
+bare_deck_of = deck_with false
+
 -- RC=, RETADDR=, REMREC=, COMPCOD=, REASON=, DUMP=, RECORD=, FRESDWA=
 abbrev pub setrp :
     Option ℕ → Option (List ℕ) → Option Bool → Option Code → Option ℕ → Option Three → Option Three → Option Bool
@@ -60,8 +79,8 @@ setrp rc retaddr remrec compcod reason dump logrec fresdwa = record {
   fresdwa = fresdwa;
 }
 
--- Routines, each with its birth and its program: made by the first request block of a unit, in the outermost bracket, by a
--- card with CANCEL=YES alone
+-- Routines, each with its birth and its program: made by the first request block of a unit, in the outermost bracket, by
+-- a card with CANCEL=YES alone
 abbrev pub routine : Kind → ℕ → ℕ → Reg
 routine kind born prog = record {
   kind = kind;
@@ -105,7 +124,11 @@ abbrev pub land : ℕ → Class → ℕ → Mark → Entry
 land u class from mark = record { unit = u; what = Land class from mark }
 
 abbrev pub enter : ℕ → Kind → ℕ → Mark → Entry
-enter u kind reg mark = record { unit = u; what = Enter kind reg mark }
+enter u kind reg mark = record { unit = u; what = Enter kind reg mark false }
+
+-- a routine that gets no SDWA
+abbrev pub enter_bare : ℕ → Kind → ℕ → Mark → Entry
+enter_bare u kind reg mark = record { unit = u; what = Enter kind reg mark true }
 
 abbrev pub retry : ℕ → ℕ → Verdict
 retry prog op = Retry (record { prog = prog; op = op })
@@ -144,3 +167,17 @@ memend u = record { unit = u; what = MemEnd }
 -- the first n entries of a history, and then that one
 abbrev pub front_and : List Entry → ℕ → Entry → List Entry
 front_and history n e = take n history ++ e ∷ []
+
+-- Many entries alike
+
+-- so many cards of a program one after the other, from that operation on, each with the return code 0
+abbrev pub execs : ℕ → ℕ → ℕ → ℕ → List Entry
+execs u prog op zero = []
+execs u prog op (suc more) = exec u prog op 0 ∷ execs u prog (op + 1) more
+
+-- so many resource managers, of which the oldest was born at that entry and each other one entry later, run, newest
+-- first
+abbrev pub managers_run : ℕ → ℕ → ℕ → Mark → List Entry
+managers_run u oldest zero mark = []
+managers_run u oldest (suc more) mark =
+    enter u Mgr (oldest + more) mark ∷ leave u Mgr (oldest + more) Over ∷ managers_run u oldest more mark

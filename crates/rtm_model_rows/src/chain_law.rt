@@ -21,6 +21,8 @@ ghost use Rattle.rtm_model_rows.specs.RetryInsideARoutine as retry_inside_a_rout
 ghost use Rattle.rtm_model_rows.specs.RetryUnderTheOwner as retry_under_the_owner_row;
 ghost use Rattle.rtm_model_rows.specs.StopByAnEstai as stop_by_an_estai_row;
 ghost use Rattle.rtm_model_rows.specs.TwoAborts as two_aborts_row;
+ghost use Rattle.rtm_model_rows.specs.RoutineOfABareRoutine as routine_of_a_bare_routine_row;
+ghost use Rattle.rtm_model_rows.specs.DenseRecovery as dense_recovery_row;
 
 /// Two routines are entered for one error.
 pub fn chain_of_two()
@@ -102,7 +104,8 @@ pub fn nothing_left()
 
 /// A failure by an error that is not TERM-only forces nothing.
 pub fn failure_forces_nothing()
-    ensures { forced_end_at failure_of_a_routine_row.deck failure_of_a_routine_row.history 2 0 ≡ None }
+    ensures { forced_end_at failure_of_a_routine_row.deck failure_of_a_routine_row.history 2 0
+        ≡ None }
 {}
 
 /// A valid retry of the routine that runs ends its error.
@@ -244,4 +247,15 @@ pub fn end_in_a_manager_breaks_the_law()
 pub fn retry_breaks_the_law()
     ensures { keeps_chains cancel_inside_a_routine_row.deck
         (front_and cancel_inside_a_routine_row.history 14 (leave 0 Estae 0 (retry 0 4))) ≡ false }
+{}
+
+/// A routine of a routine, both without an SDWA, keeps the law.
+pub fn bare_routines_keep_the_law()
+    ensures { keeps_chains routine_of_a_bare_routine_row.deck routine_of_a_bare_routine_row.history
+        ≡ true }
+{}
+
+/// Each way in which a routine of each kind ends keeps the law.
+pub fn each_end_keeps_the_law()
+    ensures { keeps_chains dense_recovery_row.deck dense_recovery_row.history ≡ true }
 {}

@@ -35,7 +35,8 @@ pub fn no_eligible_routine()
 
 /// A routine percolates and the next one retries: the error is over.
 pub fn percolation_then_retry()
-    ensures { course_of percolation_and_retry_row.deck percolation_and_retry_row.history 2 0 ≡ Some Closed }
+    ensures { course_of percolation_and_retry_row.deck percolation_and_retry_row.history 2 0
+        ≡ Some Closed }
 {}
 
 /// The last error of a history that ends first still has its whole list.
@@ -56,7 +57,8 @@ pub fn failures_down_to_the_outermost()
 
 /// After a cancel inside a routine those with TERM=YES alone go on.
 pub fn only_those_with_term_go_on()
-    ensures { course_of cancel_inside_a_routine_row.deck cancel_inside_a_routine_row.history 2 0 ≡ Some Closed }
+    ensures { course_of cancel_inside_a_routine_row.deck cancel_inside_a_routine_row.history 2 0
+        ≡ Some Closed }
 {}
 
 /// After a Stop the unit begins to end.
@@ -88,37 +90,53 @@ pub fn failure_of_a_manager()
 
 /// A routine that has percolated is entered again.
 pub fn routine_entered_twice()
-    ensures { course_of percolation_and_retry_row.deck (take 6 percolation_and_retry_row.history ++ enter 0 Estae 1 (full_mark (Sys 0x0C1) None false true false) ∷ []) 2 0 ≡ None }
+    ensures { course_of percolation_and_retry_row.deck
+        (take 6 percolation_and_retry_row.history ++ enter 0 Estae 1 (full_mark (Sys 0x0C1) None false true false) ∷ []) 2
+        0
+        ≡ None }
 {}
 
 /// The oldest routine is entered before the newest.
 pub fn oldest_routine_first()
-    ensures { course_of percolation_and_retry_row.deck (take 3 percolation_and_retry_row.history ++ enter 0 Estae 0 (mark (Sys 0x0C1)) ∷ []) 2 0 ≡ None }
+    ensures { course_of percolation_and_retry_row.deck
+        (take 3 percolation_and_retry_row.history ++ enter 0 Estae 0 (mark (Sys 0x0C1)) ∷ []) 2 0
+        ≡ None }
 {}
 
 /// A routine that was to be removed at its retry is entered for the next error.
 pub fn removed_routine_entered()
-    ensures { course_of percolation_and_retry_row.deck (take 10 percolation_and_retry_row.history ++ enter 0 Estae 0 (mark (Sys 0x0C4)) ∷ []) 9 0 ≡ None }
+    ensures { course_of percolation_and_retry_row.deck
+        (take 10 percolation_and_retry_row.history ++ enter 0 Estae 0 (mark (Sys 0x0C4)) ∷ []) 9 0
+        ≡ None }
 {}
 
 /// A unit begins to end at an error inside a recovery routine.
 pub fn end_inside_a_routine()
-    ensures { course_of failure_of_a_routine_row.deck (take 5 failure_of_a_routine_row.history ++ begin 0 (User 7) false ∷ []) 2 0 ≡ None }
+    ensures { course_of failure_of_a_routine_row.deck
+        (take 5 failure_of_a_routine_row.history ++ begin 0 (User 7) false ∷ []) 2 0
+        ≡ None }
 {}
 
 /// A routine retries although a cancel has landed.
 pub fn retry_after_a_cancel()
-    ensures { course_of cancel_inside_a_routine_row.deck (take 14 cancel_inside_a_routine_row.history ++ leave 0 Estae 0 (retry 0 4) ∷ []) 2 0 ≡ None }
+    ensures { course_of cancel_inside_a_routine_row.deck
+        (take 14 cancel_inside_a_routine_row.history ++ leave 0 Estae 0 (retry 0 4) ∷ []) 2 0
+        ≡ None }
 {}
 
 /// A subtask of a subtask ends without the ESTAI routine that it inherits.
 pub fn estai_not_inherited()
-    ensures { course_of inherited_estai_row.deck (take 5 inherited_estai_row.history ++ begin 2 (Sys 0x0C7) false ∷ []) 2 2 ≡ None }
+    ensures { course_of inherited_estai_row.deck
+        (take 5 inherited_estai_row.history ++ begin 2 (Sys 0x0C7) false ∷ []) 2 2
+        ≡ None }
 {}
 
 /// After RC=16 of an ESTAI routine the next one is entered.
 pub fn estai_after_a_stop()
-    ensures { course_of stop_by_an_estai_row.deck (take 6 stop_by_an_estai_row.history ++ enter 2 Estai 0 (full_mark (Sys 0x0C7) None false true false) ∷ []) 2 2 ≡ None }
+    ensures { course_of stop_by_an_estai_row.deck
+        (take 6 stop_by_an_estai_row.history ++ enter 2 Estai 0 (full_mark (Sys 0x0C7) None false true false) ∷ []) 2
+        2
+        ≡ None }
 {}
 
 /// A routine is left under the name of another one.

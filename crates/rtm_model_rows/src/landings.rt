@@ -17,6 +17,8 @@ ghost use Rattle.rtm_model_rows.specs.JobStepEnds as job_step_ends_row;
 ghost use Rattle.rtm_model_rows.specs.NightlyBatch as nightly_batch_row;
 ghost use Rattle.rtm_model_rows.specs.SrbAndRelatedTask as srb_and_related_task_row;
 ghost use Rattle.rtm_model_rows.specs.TwoAborts as two_aborts_row;
+ghost use Rattle.rtm_model_rows.specs.DenseAborts as dense_aborts_row;
+ghost use Rattle.rtm_model_rows.specs.DenseRecovery as dense_recovery_row;
 
 /// CALLRTM TYPE=ABTERM queues its abort.
 pub fn abterm_is_queued()
@@ -203,4 +205,14 @@ pub fn landing_in_a_doomed_unit()
 pub fn retry_in_a_doomed_unit()
     ensures { keeps_aborts cancel_inside_a_routine_row.deck
         (front_and cancel_inside_a_routine_row.history 14 (leave 0 Estae 0 (retry 0 4))) ≡ false }
+{}
+
+/// Two aborts that one DONE posts land in their turn.
+pub fn aborts_of_one_done_keep_the_law()
+    ensures { keeps_aborts dense_aborts_row.deck dense_aborts_row.history ≡ true }
+{}
+
+/// Aborts by DETACH, by CALLRTM and by the operator land in three tasks.
+pub fn each_abort_keeps_the_law()
+    ensures { keeps_aborts dense_recovery_row.deck dense_recovery_row.history ≡ true }
 {}

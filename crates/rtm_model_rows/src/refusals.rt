@@ -8,8 +8,8 @@ ghost use Rattle.rtm_deck_operands.specs.declared.value.Res.TheVariants.{Enq, Ti
 ghost use Rattle.rtm_model.specs.declared.entry.Class.TheVariants.{Cancel, Detach};
 ghost use Rattle.rtm_model.specs.declared.entry.Fate.TheVariants.{Queued, Late};
 ghost use Rattle.rtm_model.specs.declared.entry.Verdict.TheVariants.{Perc, Bad, Fail};
-ghost use Rattle.rtm_model.specs.declared.reg.Kind.TheVariants.{Estae, Estai, Mgr};
-ghost use Rattle.rtm_model_rows.specs.Writing.{exec, error, land, enter, leave, arrive};
+ghost use Rattle.rtm_model.specs.declared.reg.Kind.TheVariants.{Estae, Estai, Frr, Mgr};
+ghost use Rattle.rtm_model_rows.specs.Writing.{exec, error, land, enter, enter_bare, leave, arrive};
 ghost use Rattle.rtm_model_rows.specs.Writing.{begin, release, plain_done, done_with, retry, mark, full_mark};
 ghost use Rattle.rtm_model_rows.specs.Refusal.{IsRefused};
 ghost use Rattle.rtm_model_rows.specs.CancelInsideARoutine as cancel_inside_a_routine_row;
@@ -25,6 +25,10 @@ ghost use Rattle.rtm_model_rows.specs.RetryUnderTheOwner as retry_under_the_owne
 ghost use Rattle.rtm_model_rows.specs.SrbAndRelatedTask as srb_and_related_task_row;
 ghost use Rattle.rtm_model_rows.specs.StopByAnEstai as stop_by_an_estai_row;
 ghost use Rattle.rtm_model_rows.specs.TwoAborts as two_aborts_row;
+ghost use Rattle.rtm_model_rows.specs.BareRoutine as bare_routine_row;
+ghost use Rattle.rtm_model_rows.specs.FrrBesideABareEstae as frr_beside_a_bare_estae_row;
+ghost use Rattle.rtm_model_rows.specs.Ret15InAManager as ret15_in_a_manager_row;
+ghost use Rattle.rtm_model_rows.specs.SetrpInABareRoutine as setrp_in_a_bare_routine_row;
 
 /// A routine that has percolated is entered again.
 pub fn routine_entered_twice()
@@ -178,4 +182,39 @@ pub fn arrival_out_of_turn()
     ensures { IsRefused cancel_while_an_frr_lives_row.deck (take 1 cancel_while_an_frr_lives_row.history)
         (arrive 0 1 Queued)
         (Some (exec 0 0 2 0)) }
+{}
+
+/// A routine is entered with an SDWA although the region has none for it.
+pub fn sdwa_in_a_bare_region()
+    ensures { IsRefused bare_routine_row.deck (take 2 bare_routine_row.history)
+        (enter 0 Estae 0 (mark (Sys 0x0C1)))
+        (Some (enter_bare 0 Estae 0 (mark (Sys 0x0C1)))) }
+{}
+
+/// A routine is entered without an SDWA although the region has one for it.
+pub fn bare_routine_in_a_whole_region()
+    ensures { IsRefused percolation_and_retry_row.deck (take 3 percolation_and_retry_row.history)
+        (enter_bare 0 Estae 1 (mark (Sys 0x0C1)))
+        (Some (enter 0 Estae 1 (mark (Sys 0x0C1)))) }
+{}
+
+/// An FRR is entered without an SDWA.
+pub fn bare_frr()
+    ensures { IsRefused frr_beside_a_bare_estae_row.deck (take 3 frr_beside_a_bare_estae_row.history)
+        (enter_bare 0 Frr 1 (mark (Sys 0x0C4)))
+        (Some (enter 0 Frr 1 (mark (Sys 0x0C4)))) }
+{}
+
+/// A resource manager is entered as one that gets no SDWA, though it never gets one.
+pub fn bare_manager()
+    ensures { IsRefused ret15_in_a_manager_row.deck (take 2 ret15_in_a_manager_row.history)
+        (enter_bare 0 Mgr 0 (mark (Sys 0x000)))
+        (Some (enter 0 Mgr 0 (mark (Sys 0x000)))) }
+{}
+
+/// SETRP is executed in a routine that has no SDWA.
+pub fn setrp_without_an_sdwa()
+    ensures { IsRefused setrp_in_a_bare_routine_row.deck (take 3 setrp_in_a_bare_routine_row.history)
+        (exec 0 1 1 0)
+        (Some (error 0 1 1 (mark (Sys 0xEE7)))) }
 {}

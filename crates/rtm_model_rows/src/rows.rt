@@ -30,32 +30,47 @@ ghost use Rattle.rtm_model_rows.specs.JobStepEnds as job_step_ends_row;
 ghost use Rattle.rtm_model_rows.specs.NormalEnd as normal_end_row;
 ghost use Rattle.rtm_model_rows.specs.TwoAborts as two_aborts_row;
 ghost use Rattle.rtm_model_rows.specs.AbtermWithoutRetry as abterm_without_retry_row;
+ghost use Rattle.rtm_model_rows.specs.BareRoutine as bare_routine_row;
+ghost use Rattle.rtm_model_rows.specs.SetrpInABareRoutine as setrp_in_a_bare_routine_row;
+ghost use Rattle.rtm_model_rows.specs.BareEstai as bare_estai_row;
+ghost use Rattle.rtm_model_rows.specs.FrrBesideABareEstae as frr_beside_a_bare_estae_row;
+ghost use Rattle.rtm_model_rows.specs.RoutineOfABareRoutine as routine_of_a_bare_routine_row;
+ghost use Rattle.rtm_model_rows.specs.Ret15OutsideARoutine as ret15_outside_a_routine_row;
+ghost use Rattle.rtm_model_rows.specs.Ret15InAManager as ret15_in_a_manager_row;
+ghost use Rattle.rtm_model_rows.specs.Ret15InAWholeRoutine as ret15_in_a_whole_routine_row;
+ghost use Rattle.rtm_model_rows.specs.DenseRecovery as dense_recovery_row;
+ghost use Rattle.rtm_model_rows.specs.DenseAborts as dense_aborts_row;
+ghost use Rattle.rtm_model_rows.specs.DenseLimits as dense_limits_row;
 
 /// A routine that percolates, and an older one that retries and is removed.
 pub fn percolation_and_retry()
     ensures legal { Legal percolation_and_retry_row.deck percolation_and_retry_row.history }
-    ensures ends { end_of percolation_and_retry_row.deck percolation_and_retry_row.history ≡ Some Ended }
+    ensures ends { end_of percolation_and_retry_row.deck percolation_and_retry_row.history
+        ≡ Some Ended }
     ensures in_turns { seq percolation_and_retry_row.deck ≡ percolation_and_retry_row.history }
 {}
 
 /// A routine that retries the card that failed, until the history has as many entries as it may have.
 pub fn retry_until_the_limit()
     ensures legal { Legal retry_until_the_limit_row.deck retry_until_the_limit_row.history }
-    ensures ends { end_of retry_until_the_limit_row.deck retry_until_the_limit_row.history ≡ Some Limit }
+    ensures ends { end_of retry_until_the_limit_row.deck retry_until_the_limit_row.history
+        ≡ Some Limit }
     ensures in_turns { seq retry_until_the_limit_row.deck ≡ retry_until_the_limit_row.history }
 {}
 
 /// ESTAEX 0 takes away no routine that another request block has made.
 pub fn routine_of_another_block()
     ensures legal { Legal routine_of_another_block_row.deck routine_of_another_block_row.history }
-    ensures ends { end_of routine_of_another_block_row.deck routine_of_another_block_row.history ≡ Some Ended }
+    ensures ends { end_of routine_of_another_block_row.deck routine_of_another_block_row.history
+        ≡ Some Ended }
     ensures in_turns { seq routine_of_another_block_row.deck ≡ routine_of_another_block_row.history }
 {}
 
 /// A retry runs under the request block that made the routine; the newer ones are gone.
 pub fn retry_under_the_owner()
     ensures legal { Legal retry_under_the_owner_row.deck retry_under_the_owner_row.history }
-    ensures ends { end_of retry_under_the_owner_row.deck retry_under_the_owner_row.history ≡ Some Ended }
+    ensures ends { end_of retry_under_the_owner_row.deck retry_under_the_owner_row.history
+        ≡ Some Ended }
     ensures in_turns { seq retry_under_the_owner_row.deck ≡ retry_under_the_owner_row.history }
 {}
 
@@ -76,21 +91,24 @@ pub fn seventeen_frrs()
 /// An error inside a recovery routine is retried by a routine that it made itself.
 pub fn retry_inside_a_routine()
     ensures legal { Legal retry_inside_a_routine_row.deck retry_inside_a_routine_row.history }
-    ensures ends { end_of retry_inside_a_routine_row.deck retry_inside_a_routine_row.history ≡ Some Ended }
+    ensures ends { end_of retry_inside_a_routine_row.deck retry_inside_a_routine_row.history
+        ≡ Some Ended }
     ensures in_turns { seq retry_inside_a_routine_row.deck ≡ retry_inside_a_routine_row.history }
 {}
 
 /// A recovery routine fails, and the next older one gets control.
 pub fn failure_of_a_routine()
     ensures legal { Legal failure_of_a_routine_row.deck failure_of_a_routine_row.history }
-    ensures ends { end_of failure_of_a_routine_row.deck failure_of_a_routine_row.history ≡ Some Ended }
+    ensures ends { end_of failure_of_a_routine_row.deck failure_of_a_routine_row.history
+        ≡ Some Ended }
     ensures in_turns { seq failure_of_a_routine_row.deck ≡ failure_of_a_routine_row.history }
 {}
 
 /// A cancel lands in a routine of a routine: nothing retries from then on.
 pub fn cancel_inside_a_routine()
     ensures legal { Legal cancel_inside_a_routine_row.deck cancel_inside_a_routine_row.history }
-    ensures ends { end_of cancel_inside_a_routine_row.deck cancel_inside_a_routine_row.history ≡ Some Ended }
+    ensures ends { end_of cancel_inside_a_routine_row.deck cancel_inside_a_routine_row.history
+        ≡ Some Ended }
     ensures in_turns { seq cancel_inside_a_routine_row.deck ≡ cancel_inside_a_routine_row.history }
 {}
 
@@ -104,8 +122,10 @@ pub fn cancel_held_off()
 /// Two cancels become one, which lands once the FRR is gone.
 pub fn cancel_while_an_frr_lives()
     ensures legal { Legal cancel_while_an_frr_lives_row.deck cancel_while_an_frr_lives_row.history }
-    ensures ends { end_of cancel_while_an_frr_lives_row.deck cancel_while_an_frr_lives_row.history ≡ Some Ended }
-    ensures in_turns { seq cancel_while_an_frr_lives_row.deck ≡ cancel_while_an_frr_lives_row.history }
+    ensures ends { end_of cancel_while_an_frr_lives_row.deck cancel_while_an_frr_lives_row.history
+        ≡ Some Ended }
+    ensures in_turns { seq cancel_while_an_frr_lives_row.deck
+        ≡ cancel_while_an_frr_lives_row.history }
 {}
 
 /// RC=16 of an ESTAI routine: no further one of the unit gets control.
@@ -125,7 +145,8 @@ pub fn inherited_estai()
 /// The error of an SRB comes too late for its related task.
 pub fn srb_and_related_task()
     ensures legal { Legal srb_and_related_task_row.deck srb_and_related_task_row.history }
-    ensures ends { end_of srb_and_related_task_row.deck srb_and_related_task_row.history ≡ Some Ended }
+    ensures ends { end_of srb_and_related_task_row.deck srb_and_related_task_row.history
+        ≡ Some Ended }
     ensures in_turns { seq srb_and_related_task_row.deck ≡ srb_and_related_task_row.history }
 {}
 
@@ -202,6 +223,91 @@ pub fn two_aborts()
 /// CALLRTM TYPE=ABTERM with RETRY=NO: the retry that a routine asks for is refused.
 pub fn abterm_without_retry()
     ensures legal { Legal abterm_without_retry_row.deck abterm_without_retry_row.history }
-    ensures ends { end_of abterm_without_retry_row.deck abterm_without_retry_row.history ≡ Some Ended }
+    ensures ends { end_of abterm_without_retry_row.deck abterm_without_retry_row.history
+        ≡ Some Ended }
     ensures in_turns { seq abterm_without_retry_row.deck ≡ abterm_without_retry_row.history }
+{}
+
+/// A routine without an SDWA asks for a retry by its return code in register 15.
+pub fn bare_routine()
+    ensures legal { Legal bare_routine_row.deck bare_routine_row.history }
+    ensures ends { end_of bare_routine_row.deck bare_routine_row.history ≡ Some Ended }
+    ensures in_turns { seq bare_routine_row.deck ≡ bare_routine_row.history }
+{}
+
+/// SETRP in a routine without an SDWA is the error EE7.
+pub fn setrp_in_a_bare_routine()
+    ensures legal { Legal setrp_in_a_bare_routine_row.deck setrp_in_a_bare_routine_row.history }
+    ensures ends { end_of setrp_in_a_bare_routine_row.deck setrp_in_a_bare_routine_row.history
+        ≡ Some Ended }
+    ensures in_turns { seq setrp_in_a_bare_routine_row.deck ≡ setrp_in_a_bare_routine_row.history }
+{}
+
+/// An ESTAI routine without an SDWA retries under the oldest request block.
+pub fn bare_estai()
+    ensures legal { Legal bare_estai_row.deck bare_estai_row.history }
+    ensures ends { end_of bare_estai_row.deck bare_estai_row.history ≡ Some Ended }
+    ensures in_turns { seq bare_estai_row.deck ≡ bare_estai_row.history }
+{}
+
+/// An FRR has its SDWA where ESTAE routines get none.
+pub fn frr_beside_a_bare_estae()
+    ensures legal { Legal frr_beside_a_bare_estae_row.deck frr_beside_a_bare_estae_row.history }
+    ensures ends { end_of frr_beside_a_bare_estae_row.deck frr_beside_a_bare_estae_row.history
+        ≡ Some Ended }
+    ensures in_turns { seq frr_beside_a_bare_estae_row.deck ≡ frr_beside_a_bare_estae_row.history }
+{}
+
+/// A routine that a bare routine makes has its own record: what it asks for leaves that of the other as it was.
+pub fn routine_of_a_bare_routine()
+    ensures legal { Legal routine_of_a_bare_routine_row.deck routine_of_a_bare_routine_row.history }
+    ensures ends { end_of routine_of_a_bare_routine_row.deck routine_of_a_bare_routine_row.history
+        ≡ Some Ended }
+    ensures in_turns { seq routine_of_a_bare_routine_row.deck
+        ≡ routine_of_a_bare_routine_row.history }
+{}
+
+/// RET15 outside of a recovery routine is the error EE6.
+pub fn ret15_outside_a_routine()
+    ensures legal { Legal ret15_outside_a_routine_row.deck ret15_outside_a_routine_row.history }
+    ensures ends { end_of ret15_outside_a_routine_row.deck ret15_outside_a_routine_row.history
+        ≡ Some Ended }
+    ensures in_turns { seq ret15_outside_a_routine_row.deck ≡ ret15_outside_a_routine_row.history }
+{}
+
+/// RET15 in a resource manager is the error EE6.
+pub fn ret15_in_a_manager()
+    ensures legal { Legal ret15_in_a_manager_row.deck ret15_in_a_manager_row.history }
+    ensures ends { end_of ret15_in_a_manager_row.deck ret15_in_a_manager_row.history ≡ Some Ended }
+    ensures in_turns { seq ret15_in_a_manager_row.deck ≡ ret15_in_a_manager_row.history }
+{}
+
+/// RET15 in a routine that has its SDWA changes RC= and RETADDR= of it alone.
+pub fn ret15_in_a_whole_routine()
+    ensures legal { Legal ret15_in_a_whole_routine_row.deck ret15_in_a_whole_routine_row.history }
+    ensures ends { end_of ret15_in_a_whole_routine_row.deck ret15_in_a_whole_routine_row.history
+        ≡ Some Ended }
+    ensures in_turns { seq ret15_in_a_whole_routine_row.deck ≡ ret15_in_a_whole_routine_row.history }
+{}
+
+/// Retries by an FRR, an ESTAE and an ESTAI routine, branches that depend on the record, and each abort that a task
+/// posts to another.
+pub fn dense_recovery()
+    ensures legal { Legal dense_recovery_row.deck dense_recovery_row.history }
+    ensures ends { end_of dense_recovery_row.deck dense_recovery_row.history ≡ Some Ended }
+    ensures in_turns { seq dense_recovery_row.deck ≡ dense_recovery_row.history }
+{}
+
+/// Two aborts of one DONE land one after the other; a manager fails, and the master runs that of the address space.
+pub fn dense_aborts()
+    ensures legal { Legal dense_aborts_row.deck dense_aborts_row.history }
+    ensures ends { end_of dense_aborts_row.deck dense_aborts_row.history ≡ Some Ended }
+    ensures in_turns { seq dense_aborts_row.deck ≡ dense_aborts_row.history }
+{}
+
+/// One request block, ESTAE routine, holding and resource manager more than there may be.
+pub fn dense_limits()
+    ensures legal { Legal dense_limits_row.deck dense_limits_row.history }
+    ensures ends { end_of dense_limits_row.deck dense_limits_row.history ≡ Some Ended }
+    ensures in_turns { seq dense_limits_row.deck ≡ dense_limits_row.history }
 {}

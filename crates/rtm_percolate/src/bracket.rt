@@ -2,21 +2,24 @@
 
 ghost use Rattle.std.specs.Prelude.{◌≡◌, ◌+◌, ◌<◌, ◌∷◌, [], length, reverse, vec_len, vec_capacity, is_some};
 ghost use Rattle.std.specs.List.{list_any};
-ghost use Rattle.rtm_model.specs.Record.{setrp_in, after_percolation, inner_failed};
-ghost use Rattle.rtm_model.specs.Levels.{innermost_bracket, enclosing_bracket, shields, shielded, on_record, with_open, after_verdict, after_inner_failure};
+ghost use Rattle.rtm_deck_operands.specs.Value.{is_return_code};
+ghost use Rattle.rtm_model.specs.Record.{setrp_in, ret15_in, after_percolation, inner_failed};
+ghost use Rattle.rtm_model.specs.Levels.{enclosing_bracket, current, error_here, error_in, error_of, is_bare, shields, shielded, on_record, with_open, after_verdict, after_inner_failure};
 ghost use Rattle.rtm_model.specs.Cards.{manages, in_manager};
 ghost use Rattle.rtm_model.specs.SetrpCard.{is_setrp_card};
 ghost use Rattle.std.specs.Prelude.{IsTrue, None, Some};
 
-use rtm_deck_items::Setrp;
+use rtm_deck_items::{Name, Setrp};
 use rtm_model::{Kind, Reg, Verdict};
 use rtm_sdwa::Sdwa;
 use std::marker::Model;
 
-/// A bracket: the routine that runs in it, none in the outermost, and the record of its open error.
+/// A bracket: the routine that runs in it, none in the outermost, whether that was entered without an SDWA, and the record
+/// of its open error.
 #[derive(Clone, Copy)]
 pub(crate) struct Bracket {
     pub(crate) routine: Option<Reg>,
+    pub(crate) bare: bool,
     pub(crate) error: Option<Sdwa>,
 }
 
@@ -25,14 +28,15 @@ impl Model for Bracket {
 
     ghost Value = { Bracket };
 
-    ghost view = { λ a. record { routine = a.routine; error = a.error } };
+    ghost view = { λ a. record { routine = a.routine; bare = a.bare; error = a.error } };
 
-    ghost inverse = { λ l. record { routine = l.routine; error = l.error } };
+    ghost inverse = { λ l. record { routine = l.routine; bare = l.bare; error = l.error } };
 }
 
 /// The outermost bracket, with no error.
 pub(crate) const OUTERMOST: Bracket = Bracket {
     routine: None,
+    bare: false,
     error: None,
 };
 
@@ -74,6 +78,21 @@ impl Bracket {
             None => self,
             Some(mut sdwa) => {
                 sdwa.setrp(card);
+                self.with_open(Some(sdwa))
+            }
+        }
+    }
+
+    /// With what RET15 makes of its error's record.
+    pub(crate) fn after_ret15(self, rc: u8, label: Option<Name>) -> Bracket
+        requires { IsTrue (is_return_code rc) }
+        ensures value { result ≡ on_record (ret15_in rc label) self }
+        ensures keeps { is_some result.error ≡ is_some self.error }
+    {
+        match self.error {
+            None => self,
+            Some(mut sdwa) => {
+                sdwa.ret15(rc, label);
                 self.with_open(Some(sdwa))
             }
         }
@@ -139,20 +158,53 @@ pub(crate) fn take(list: &mut Vec<Bracket>) -> Bracket
     list.pop().unwrap()
 }
 
-/// The newest bracket.
-pub(crate) fn innermost_bracket(list: &[Bracket]) -> Option<Bracket>
-    ensures { result ≡ innermost_bracket (reverse list.now) }
+/// The routine of the newest bracket.
+pub(crate) fn current(list: &[Bracket]) -> Option<Reg>
+    ensures { result ≡ current (reverse list.now) }
 {
-    list.last().copied()
+    match list.last() {
+        Some(bracket) => bracket.routine,
+        None => None,
+    }
 }
 
-/// The bracket that encloses it.
-pub(crate) fn enclosing_bracket(list: &[Bracket]) -> Option<Bracket>
-    ensures { result ≡ enclosing_bracket (reverse list.now) }
+/// The record of the newest bracket's open error.
+pub(crate) fn error_in(list: &[Bracket]) -> Option<Sdwa>
+    ensures { result ≡ error_in (reverse list.now) }
+{
+    match list.last() {
+        Some(bracket) => bracket.error,
+        None => None,
+    }
+}
+
+/// Whether an error is open in the newest bracket.
+pub(crate) fn error_here(list: &[Bracket]) -> bool
+    ensures { result ≡ error_here (reverse list.now) }
+{
+    match list.last() {
+        Some(bracket) => bracket.error.is_some(),
+        None => false,
+    }
+}
+
+/// The record of the open error of the bracket that encloses the newest one.
+pub(crate) fn enclosing_error(list: &[Bracket]) -> Option<Sdwa>
+    ensures { result ≡ error_of (enclosing_bracket (reverse list.now)) }
 {
     match list {
-        [.., second, _newest] => Some(*second),
+        [.., second, _newest] => second.error,
         _ => None,
+    }
+}
+
+/// Whether the newest bracket's routine was entered without an SDWA.
+pub(crate) fn is_bare(list: &[Bracket]) -> bool
+    ensures { result ≡ is_bare (reverse list.now) }
+{
+    match list.last() {
+        Some(bracket) => bracket.bare,
+        None => false,
     }
 }
 

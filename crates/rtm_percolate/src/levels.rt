@@ -1,7 +1,9 @@
 //! The brackets of a unit, with their routines and open errors.
 
 ghost use Rattle.std.specs.Prelude.{◌≡◌, ◌<◌, ◌≤◌, ◌↔◌, ◌||◌, ◌&&◌, Bool, not, is_some, length, IsTrue, IsSome, IfSome, IfOk, Some, None};
-ghost use Rattle.rtm_model.specs.Levels.{outermost_alone, innermost_bracket, enclosing_bracket, routine_of, error_of, current, error_in, error_here, depth_in, is_manager, is_recovery, recovers, record_in, shielded, first_eligible, next_frr, next_estai_at, verdict_in, verdict_of_routine, after_error, after_enter, after_setrp, after_leave};
+ghost use Rattle.rtm_model.specs.Levels.{outermost_alone, current, error_in, error_here, depth_in, is_bare, is_manager, is_recovery, recovers, record_in, shielded, first_eligible, next_frr, next_estai_at, verdict_in, verdict_of_routine, after_error, after_enter, after_setrp, after_ret15, after_leave};
+ghost use Rattle.rtm_model.specs.Limits.{most_brackets};
+ghost use Rattle.rtm_deck_operands.specs.Value.{is_return_code};
 ghost use Rattle.rtm_model.specs.Cards.{in_manager};
 ghost use Rattle.rtm_model.specs.SetrpCard.{is_setrp_card};
 ghost use Rattle.rtm_percolate.specs.Choices.{choice_for};
@@ -11,16 +13,13 @@ use crate::bracket::{self, Bracket, OUTERMOST};
 use crate::choice::Choice;
 use rtm_chains::{EstaeChain, EstaiList, FrrStack};
 use rtm_codes::NoMemory;
-use rtm_deck_items::{Deck, Setrp};
-use rtm_model::{Kind, Reg, Verdict};
+use rtm_deck_items::{Deck, Name, Setrp};
+use rtm_model::{Kind, MOST_BRACKETS, Reg, Verdict};
 use rtm_sdwa::Sdwa;
 use std::alloc::Global;
 use std::marker::Model;
 
-// At most this many brackets of a unit (this profile).
-const MOST_BRACKETS: usize = 16;
-
-/// The brackets of a unit, at most 16 (this profile), each with the routine that runs in it and its open error.
+/// The brackets of a unit, at most `MOST_BRACKETS`, each with the routine that runs in it and its open error.
 ///
 /// A contract sees them as a list of brackets, newest first. The last is the outermost bracket, which is always there and
 /// has no routine. Every other bracket was entered for a recovery routine, and then the error that it was entered for is
@@ -33,33 +32,15 @@ pub struct Levels {
 impl Model for Levels {
     ghost use Rattle.std.specs.Prelude.{◌<◌, ◌≤◌, List, length, reverse, vec_capacity};
     ghost use Rattle.rtm_model.specs.Levels.{Bracket};
+    ghost use Rattle.rtm_model.specs.Limits.{most_brackets};
     ghost use Rattle.rtm_percolate.specs.Nested.{IsNested};
 
     ghost Value = { List Bracket };
 
     ghost view = { λ a. reverse a.list.items };
 
-    ghost invariant = { λ a. IsNested (reverse a.list.items) × (0 < length a.list.items) × (length a.list.items ≤ 16) × (16 ≤ vec_capacity a.list) };
-}
-
-// The routine that runs in the bracket, if one is there.
-fn routine_of(bracket: Option<Bracket>) -> Option<Reg>
-    ensures { result ≡ routine_of bracket }
-{
-    match bracket {
-        None => None,
-        Some(bracket) => bracket.routine,
-    }
-}
-
-// The record of the bracket's open error, if one is there.
-fn error_of(bracket: Option<Bracket>) -> Option<Sdwa>
-    ensures { result ≡ error_of bracket }
-{
-    match bracket {
-        None => None,
-        Some(bracket) => bracket.error,
-    }
+    ghost invariant = { λ a. IsNested (reverse a.list.items) × (0 < length a.list.items)
+        × (length a.list.items ≤ most_brackets) × (most_brackets ≤ vec_capacity a.list) };
 }
 
 fn is_recovery(routine: Option<Reg>) -> bool
@@ -111,7 +92,7 @@ fn first_eligible(
 }
 
 impl Levels {
-    /// The outermost bracket alone, and room for 16.
+    /// The outermost bracket alone, and room for as many as may be.
     pub fn with_room(alloc: Global) -> Result<Levels, NoMemory>
         ensures { IfOk result (λ levels. levels ≡ outermost_alone) }
     {
@@ -124,20 +105,20 @@ impl Levels {
     pub fn error_here(&self) -> bool
         ensures { result ≡ error_here self.now }
     {
-        self.error().is_some()
+        bracket::error_here(&self.list)
     }
 
     /// The record of the error that is open in the newest bracket, if one is open there.
     pub fn error(&self) -> Option<Sdwa>
         ensures { result ≡ error_in self.now }
     {
-        error_of(bracket::innermost_bracket(&self.list))
+        bracket::error_in(&self.list)
     }
 
-    /// How many brackets enclose the newest one, 0 to 15.
+    /// How many brackets enclose the newest one, 0 to `DEEPEST`.
     pub fn depth(&self) -> u8
         ensures value { result ≡ depth_in self.now }
-        ensures bound { result < 16 }
+        ensures bound { result < most_brackets }
     {
         (self.list.len() - 1) as u8
     }
@@ -165,30 +146,17 @@ impl Levels {
         bracket::put(&mut self.list, newest.with_open(Some(sdwa)));
     }
 
-    /// The recovery routine that gets control first for an error of the newest bracket, of those with TERM=YES alone and no
-    /// FRR where `term_only`.
-    pub fn first_eligible(
-        &self,
-        term_only: bool,
-        frrs: &FrrStack,
-        estaes: &EstaeChain,
-        estais: &EstaiList,
-    ) -> Option<Reg>
-        ensures { result ≡ first_eligible (depth_in self.now) term_only frrs.now estaes.now estais.now }
-    {
-        first_eligible(self.depth(), term_only, frrs, estaes, estais)
-    }
-
     /// What the error that is open in the newest bracket leads to, over the recovery routines of the unit.
     pub fn choose(&self, frrs: &FrrStack, estaes: &EstaeChain, estais: &EstaiList) -> Choice
         requires { IsTrue (error_here self.now) }
-        ensures { IfSome (error_in self.now) (λ r. result ≡ choice_for self.now frrs.now estaes.now estais.now r) }
+        ensures { IfSome (error_in self.now)
+            (λ r. result ≡ choice_for self.now frrs.now estaes.now estais.now r) }
     {
         let Some(error) = self.error() else {
             unreachable!("an error is open");
         };
         let term_only = error.flags.ten().term_only;
-        match self.first_eligible(term_only, frrs, estaes, estais) {
+        match first_eligible(self.depth(), term_only, frrs, estaes, estais) {
             Some(reg) => Choice::Enter(reg),
             None => match self.current() {
                 Some(own) => Choice::FailRoutine(own),
@@ -198,16 +166,17 @@ impl Levels {
     }
 
     /// A routine gets control, in a bracket of its own: a recovery routine for the error that is open in the newest
-    /// bracket, or a resource manager.
-    pub fn enter(&mut self, reg: Reg)
-        requires room { length self.old < 16 }
+    /// bracket, or a resource manager. A bare one gets no SDWA (this profile).
+    pub fn enter(&mut self, reg: Reg, bare: bool)
+        requires room { length self.old < most_brackets }
         requires cause { IsTrue (is_manager reg.kind || error_here self.old) }
-        ensures { self.new ≡ after_enter reg self.old }
+        ensures { self.new ≡ after_enter reg bare self.old }
     {
         bracket::put(
             &mut self.list,
             Bracket {
                 routine: Some(reg),
+                bare,
                 error: None,
             },
         );
@@ -217,7 +186,7 @@ impl Levels {
     pub fn current(&self) -> Option<Reg>
         ensures { result ≡ current self.now }
     {
-        routine_of(bracket::innermost_bracket(&self.list))
+        bracket::current(&self.list)
     }
 
     /// Whether a recovery routine runs in the newest bracket.
@@ -227,6 +196,13 @@ impl Levels {
         is_recovery(self.current())
     }
 
+    /// Whether the routine that runs in the newest bracket was entered without an SDWA.
+    pub fn bare(&self) -> bool
+        ensures { result ≡ is_bare self.now }
+    {
+        bracket::is_bare(&self.list)
+    }
+
     /// The record of the recovery routine that runs in the newest bracket: that of the error which it was entered for.
     /// `None` exactly where no recovery routine runs there.
     pub fn sdwa(&self) -> Option<Sdwa>
@@ -234,7 +210,7 @@ impl Levels {
         ensures which { IsSome result ↔ IsTrue (recovers self.now) }
     {
         if self.recovers() {
-            error_of(bracket::enclosing_bracket(&self.list))
+            bracket::enclosing_error(&self.list)
         } else {
             None
         }
@@ -253,6 +229,23 @@ impl Levels {
         let newest = bracket::take(&mut self.list);
         let outer = bracket::take(&mut self.list);
         bracket::put(&mut self.list, outer.after_setrp(card));
+        bracket::put(&mut self.list, newest);
+        true
+    }
+
+    /// RET15: stores the return code, and the label where it is given, in that record. False, and no change, exactly where
+    /// no recovery routine runs in the newest bracket.
+    pub fn ret15(&mut self, rc: u8, label: Option<Name>) -> bool
+        requires { IsTrue (is_return_code rc) }
+        ensures which { result ≡ recovers self.old }
+        ensures levels { self.new ≡ after_ret15 rc label self.old }
+    {
+        if !self.recovers() {
+            return false;
+        }
+        let newest = bracket::take(&mut self.list);
+        let outer = bracket::take(&mut self.list);
+        bracket::put(&mut self.list, outer.after_ret15(rc, label));
         bracket::put(&mut self.list, newest);
         true
     }

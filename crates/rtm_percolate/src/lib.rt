@@ -6,8 +6,10 @@ mod bracket;
 mod choice;
 pub mod laws;
 mod levels;
+mod send;
 #[cfg(test)]
 mod tests;
 
 pub use choice::Choice;
 pub use levels::Levels;
+pub use send::types_are_send;

@@ -1,7 +1,8 @@
 //! Which routine an error enters, and what a routine's end leaves.
 
 ghost use Rattle.std.specs.Prelude.{◌≡◌, IsTrue};
-ghost use Rattle.rtm_model.specs.SetrpCard.{is_return_code, is_setrp_card};
+ghost use Rattle.rtm_deck_operands.specs.Value.{is_return_code};
+ghost use Rattle.rtm_model.specs.SetrpCard.{is_setrp_card};
 
 use crate::{Choice, Levels, laws};
 use rtm_chains::{EstaeChain, EstaiList, FrrStack};
@@ -10,14 +11,6 @@ use rtm_deck_items::{Name, Setrp};
 use rtm_model::{Kind, Place, RecordFlags, Reg, Verdict};
 use rtm_sdwa::{Sdwa, SdwaFlags};
 use std::test::Fail;
-
-fn is_send<T: Send>() {}
-
-#[test]
-fn public_types_may_move_to_another_thread() {
-    is_send::<Levels>();
-    is_send::<Choice>();
-}
 
 #[test]
 fn the_law_is_a_call() {
@@ -136,7 +129,7 @@ fn hands_a_cancel_on(rt: HostRuntime) -> Result<(), Fail> {
         assert!(rt; estaes.create(routine(Kind::Estae, 4, 0, false)).is_ok());
         let mut levels = Levels::with_room(rt.alloc())?;
         levels.open_error(abend());
-        levels.enter(routine(Kind::Estae, 6, 0, true));
+        levels.enter(routine(Kind::Estae, 6, 0, true), false);
         assert_eq!(rt; (levels.depth(), levels.error_here()), (1, false));
         levels.open_error(error);
         let choice = levels.choose(&frrs, &estaes, &estais);
@@ -145,7 +138,7 @@ fn hands_a_cancel_on(rt: HostRuntime) -> Result<(), Fail> {
         assert_eq!(rt; (levels.depth(), levels.error_here()), (0, true));
         let choice = levels.choose(&frrs, &estaes, &estais);
         assert_eq!(rt; answer_of(choice), (next, None), "at {code:?}");
-        levels.enter(routine(Kind::Estae, 3, 0, true));
+        levels.enter(routine(Kind::Estae, 3, 0, true), false);
         let mark = levels.sdwa().map(|sdwa| sdwa.mark());
         assert_eq!(rt; mark.map(|mark| (mark.code, mark.staf)), Some((code, true)));
         levels.clear();
@@ -179,26 +172,52 @@ fn closes_by_verdict(rt: HostRuntime) -> Result<(), Fail> {
         levels.error().map(|sdwa| sdwa.code),
         Some(Code::Sys(0x0c1))
     );
-    levels.enter(routine(Kind::Estai, 1, 0, false));
+    levels.enter(routine(Kind::Estai, 1, 0, false), false);
     assert!(rt; levels.setrp(&asks(16)) && levels.recovers());
     levels.close(Verdict::Stop);
     assert!(rt; !levels.setrp(&asks(0)));
     assert!(rt; levels.error_here());
-    levels.enter(routine(Kind::Estae, 2, 0, false));
+    levels.enter(routine(Kind::Estae, 2, 0, false), false);
     levels.close(Verdict::Perc);
     assert!(rt; levels.error_here());
-    levels.enter(routine(Kind::Frr, 3, 0, false));
+    levels.enter(routine(Kind::Frr, 3, 0, false), false);
     assert_eq!(rt; levels.current().map(|reg| reg.born), Some(3));
     assert_eq!(rt; levels.sdwa().map(|sdwa| sdwa.mark().perc), Some(true));
     assert!(rt; levels.setrp(&asks(4)));
     levels.close(Verdict::Retry(Place { prog: 0, op: 2 }));
     assert!(rt; !levels.error_here());
-    levels.enter(routine(Kind::Mgr, 4, 0, false));
+    levels.enter(routine(Kind::Mgr, 4, 0, false), false);
     assert!(rt; !levels.setrp(&asks(4)) && levels.sdwa().is_none());
     assert!(rt; levels.in_manager());
     levels.close(Verdict::Over);
     assert!(rt; !levels.in_manager() && levels.error().is_none());
     assert_eq!(rt; (levels.depth(), levels.current().is_none()), (0, true));
+    Ok(())
+}
+
+// RET15 stores in the record of the routine that runs, in a bare one too; a routine's own error doesn't change what it was
+// entered with.
+#[test]
+fn stores_what_ret15_names(rt: HostRuntime) -> Result<(), Fail> {
+    let mut levels = Levels::with_room(rt.alloc())?;
+    let label = Some(Name(*b"AGAIN   "));
+    assert!(rt; !levels.bare() && !levels.ret15(4, label));
+    levels.open_error(abend());
+    assert!(rt; !levels.bare());
+    levels.enter(routine(Kind::Estae, 2, 0, false), true);
+    assert!(rt; levels.bare() && levels.ret15(4, label));
+    levels.open_error(cancel());
+    assert!(rt; levels.bare());
+    levels.enter(routine(Kind::Frr, 3, 1, false), false);
+    assert!(rt; !levels.bare() && levels.ret15(0, None));
+    levels.close(Verdict::Retry(Place { prog: 1, op: 2 }));
+    assert!(rt; levels.bare());
+    let stored = levels.sdwa().map(|sdwa| (sdwa.code, sdwa.rc, sdwa.retaddr));
+    assert_eq!(rt; stored, Some((Code::Sys(0x0c1), 4, label)));
+    levels.close(Verdict::Bad);
+    let stored = levels.error().map(|sdwa| (sdwa.rc, sdwa.retaddr));
+    assert_eq!(rt; stored, Some((0, None)));
+    assert!(rt; !levels.bare());
     Ok(())
 }
 
@@ -217,9 +236,9 @@ fn some_routines_shield(rt: HostRuntime) -> Result<(), Fail> {
         levels.open_error(abend());
         assert!(rt; !levels.shielded());
         let reg = routine(kind, 1, 0, false);
-        levels.enter(Reg { cancel, ..reg });
+        levels.enter(Reg { cancel, ..reg }, false);
         levels.open_error(abend());
-        levels.enter(routine(Kind::Estae, 2, 1, false));
+        levels.enter(routine(Kind::Estae, 2, 1, false), false);
         assert_eq!(rt; levels.shielded(), want, "at {kind:?} {cancel}");
     }
     Ok(())

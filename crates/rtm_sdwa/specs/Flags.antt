@@ -1,6 +1,7 @@
 -- The flags of an SDWA as a word of 16 bits, and which flag has which bit (this profile).
 use Rattle.std.specs.Prelude.{◌≡◌, ℕ, ◌+◌, Bool, ◌==◌, if◌then◌else◌, bit_and}
 use Rattle.rtm_model.specs.declared.error_record.RecordFlags.{RecordFlags}
+use Rattle.rtm_sdwa.specs.declared.flags.SdwaFlags.{SdwaFlags}
 
 -- the bit stands in the word
 abbrev pub has : ℕ → ℕ → Bool
@@ -35,3 +36,11 @@ word_of f =
 -- no bit stands in the word but those of the ten flags
 abbrev pub HasFlagsAlone : ℕ → Type 0
 HasFlagsAlone word = word_of (flags_of word) ≡ word
+
+-- the word of an SDWA's flags
+abbrev pub word_in : SdwaFlags → ℕ
+word_in flags = flags.0
+
+-- which of the ten stand in it
+abbrev pub ten_in : SdwaFlags → RecordFlags
+ten_in flags = flags_of (word_in flags)

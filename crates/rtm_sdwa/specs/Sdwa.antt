@@ -5,7 +5,7 @@ use Rattle.rtm_deck_operands.specs.Name.{is_padded_name}
 use Rattle.rtm_model.specs.declared.error_record.ErrorRecord.{ErrorRecord}
 use Rattle.rtm_model.specs.declared.entry.Verdict.{Verdict}
 use Rattle.rtm_model.specs.declared.entry.Verdict.TheVariants.{Fail, Over}
-use Rattle.rtm_model.specs.SetrpCard.{is_return_code}
+use Rattle.rtm_deck_operands.specs.Value.{is_return_code}
 
 -- both codes are in range, the return code is one that SETRP can ask for, and the flag REASON stands where there is a
 -- reason

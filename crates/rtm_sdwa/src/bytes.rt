@@ -5,7 +5,7 @@ ghost use Rattle.std.specs.Int.{w16, w32, from_be_bytes};
 ghost use Rattle.rtm_codes.specs.declared.code.Code.{Code};
 ghost use Rattle.rtm_codes.specs.Code.{IsInRange, packed_of};
 ghost use Rattle.rtm_model.specs.declared.error_record.ErrorRecord.{ErrorRecord};
-ghost use Rattle.rtm_model.specs.SetrpCard.{is_return_code};
+ghost use Rattle.rtm_deck_operands.specs.Value.{is_return_code};
 ghost use Rattle.rtm_sdwa.specs.Bytes.{bytes_of};
 ghost use Rattle.rtm_sdwa.specs.Sdwa.{IsSdwa};
 
@@ -62,7 +62,9 @@ pub fn sdwa_bytes(sdwa: &Sdwa) -> [u8; SDWA_LEN]
 // The number of four bytes.
 fn word_at(bytes: &[u8; SDWA_LEN], at: usize) -> u32
     requires { at + 4 ≤ 48 }
-    ensures { result ≡ from_be_bytes w32 (slice_index bytes.now at ∷ slice_index bytes.now (at + 1) ∷ slice_index bytes.now (at + 2) ∷ slice_index bytes.now (at + 3) ∷ []) }
+    ensures { result
+        ≡ from_be_bytes w32
+        (slice_index bytes.now at ∷ slice_index bytes.now (at + 1) ∷ slice_index bytes.now (at + 2) ∷ slice_index bytes.now (at + 3) ∷ []) }
 {
     u32::from_be_bytes([bytes[at], bytes[at + 1], bytes[at + 2], bytes[at + 3]])
 }

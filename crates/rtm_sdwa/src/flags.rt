@@ -1,7 +1,7 @@
 //! The flags of a record, and their bits.
 
-ghost use Rattle.std.specs.Prelude.{⊤, ◌≡◌, ◌≤◌, ◌↔◌, IsTrue, [], ◌∷◌, codes};
-ghost use Rattle.rtm_sdwa.specs.Flags.{flags_of, word_of, bit_where, HasFlagsAlone};
+ghost use Rattle.std.specs.Prelude.{⊤, ◌≡◌, ◌≤◌, [], ◌∷◌, codes};
+ghost use Rattle.rtm_sdwa.specs.Flags.{word_of, bit_where, word_in, ten_in, HasFlagsAlone};
 
 use bitflags::{Flag, Flags, bitflag_items};
 use rtm_model::RecordFlags;
@@ -71,9 +71,9 @@ impl SdwaFlags {
     /// The word in which those flags stand, and no other bit.
     #[tactic(auto, using(crate::proofs::Words::flags_again))]
     pub fn of(flags: RecordFlags) -> SdwaFlags
-        ensures word { result.0 ≡ word_of flags }
-        ensures flags { flags_of result.0 ≡ flags }
-        ensures alone { HasFlagsAlone result.0 }
+        ensures word { word_in result ≡ word_of flags }
+        ensures flags { ten_in result ≡ flags }
+        ensures alone { HasFlagsAlone (word_in result) }
     {
         let first = bit_where(0x8000, flags.clup)
             + bit_where(0x4000, flags.perc)
@@ -92,7 +92,7 @@ impl SdwaFlags {
 
     /// Which of the ten flags stand in the word.
     pub fn ten(self) -> RecordFlags
-        ensures { result ≡ flags_of self.0 }
+        ensures { result ≡ ten_in self }
     {
         RecordFlags {
             clup: self.contains(SdwaFlags::CLUP),
@@ -106,12 +106,5 @@ impl SdwaFlags {
             logrec: self.contains(SdwaFlags::LOGREC),
             fresdwa: self.contains(SdwaFlags::FRESDWA),
         }
-    }
-
-    /// Whether no bit stands but those of the ten flags.
-    pub fn is_of_ten(self) -> bool
-        ensures { IsTrue result ↔ HasFlagsAlone self.0 }
-    {
-        SdwaFlags::of(self.ten()).0 == self.0
     }
 }

@@ -4,9 +4,10 @@ ghost use Rattle.std.specs.Prelude.{◌≡◌, IsTrue};
 ghost use Rattle.std.specs.Option.{unwrap_or};
 ghost use Rattle.rtm_codes.specs.Code.{IsInRange};
 ghost use Rattle.rtm_model.specs.NextEntry.{card_record, landed_flags, landed_record};
-ghost use Rattle.rtm_model.specs.Record.{no_flags, fresh, mark_of, set_by, setrp_in, without_requests, after_percolation, after_failure, after_takeover, inner_failed, retry_place, verdict_by, verdict};
-ghost use Rattle.rtm_model.specs.SetrpCard.{is_return_code, is_given_return_code, is_given_abend, is_setrp_card};
-ghost use Rattle.rtm_sdwa.specs.Flags.{flags_of};
+ghost use Rattle.rtm_model.specs.Record.{no_flags, fresh, mark_of, set_by, setrp_in, ret15_in, without_requests, after_percolation, after_failure, after_takeover, inner_failed, retry_place, verdict_by, verdict};
+ghost use Rattle.rtm_deck_operands.specs.Value.{is_return_code};
+ghost use Rattle.rtm_model.specs.SetrpCard.{is_given_return_code, is_given_abend, is_setrp_card};
+ghost use Rattle.rtm_sdwa.specs.Flags.{ten_in};
 ghost use Rattle.rtm_sdwa.specs.Sdwa.{IsKept, IsOnRecord};
 
 use crate::flags::SdwaFlags;
@@ -26,7 +27,7 @@ pub struct Sdwa {
     pub first: Code,
     pub reason: Option<u32>,
     pub flags: SdwaFlags,
-    /// What SETRP asked for: 0 percolate, 4 retry, 16 stop.
+    /// What SETRP or RET15 asked for: 0 percolate, 4 retry, 16 stop.
     pub rc: u8,
     /// The label of the retry.
     pub retaddr: Option<Name>,
@@ -34,7 +35,7 @@ pub struct Sdwa {
 
 impl Model for Sdwa {
     ghost use Rattle.rtm_model.specs.declared.error_record.ErrorRecord.{ErrorRecord};
-    ghost use Rattle.rtm_sdwa.specs.Flags.{flags_of, word_of, HasFlagsAlone};
+    ghost use Rattle.rtm_sdwa.specs.Flags.{ten_in, word_in, word_of, HasFlagsAlone};
     ghost use Rattle.rtm_sdwa.specs.Sdwa.{IsKept};
 
     ghost Value = { ErrorRecord };
@@ -43,7 +44,7 @@ impl Model for Sdwa {
       code = a.code;
       first = a.first;
       reason = a.reason;
-      flags = flags_of a.flags.0;
+      flags = ten_in a.flags;
       rc = a.rc;
       retaddr = a.retaddr;
     } };
@@ -52,10 +53,10 @@ impl Model for Sdwa {
       code = a.code;
       first = a.first;
       reason = a.reason;
-      flags = flags_of a.flags.0;
+      flags = ten_in a.flags;
       rc = a.rc;
       retaddr = a.retaddr;
-    }) × HasFlagsAlone a.flags.0 };
+    }) × HasFlagsAlone (word_in a.flags) };
 
     ghost inverse = { λ r. record {
       code = r.code;
@@ -160,7 +161,7 @@ impl Sdwa {
     /// whatever it is in `flags`.
     pub fn fresh(code: Code, reason: Option<u32>, flags: SdwaFlags) -> Sdwa
         requires { IsInRange code }
-        ensures { result ≡ fresh code reason (flags_of flags.0) }
+        ensures { result ≡ fresh code reason (ten_in flags) }
     {
         let flags = RecordFlags {
             reason: reason.is_some(),
@@ -217,6 +218,15 @@ impl Sdwa {
         });
         self.rc = rc_or(card.rc, self.rc);
         self.retaddr = card.retaddr.or(self.retaddr);
+    }
+
+    /// RET15: the return code is stored, and the label of the retry where it is given (this profile).
+    pub fn ret15(&mut self, rc: u8, label: Option<Name>)
+        requires { IsTrue (is_return_code rc) }
+        ensures { self.new ≡ ret15_in rc label self.old }
+    {
+        self.rc = rc;
+        self.retaddr = label.or(self.retaddr);
     }
 
     // Where the error would be retried, if it would.

@@ -10,14 +10,6 @@ use rtm_deck_items::{Name, Setrp, Three};
 use rtm_model::{Abort, Class, Kind, Place, RecordFlags, Verdict};
 use std::test::Fail;
 
-fn is_send<T: Send>() {}
-
-#[test]
-fn public_types_may_move_to_another_thread() {
-    is_send::<Sdwa>();
-    is_send::<SdwaFlags>();
-}
-
 const NO_FLAGS: RecordFlags = RecordFlags {
     clup: false,
     perc: false,
@@ -60,9 +52,9 @@ fn each_flag_has_its_bit(rt: HostRuntime) {
     for (name, bit) in cases {
         let flag = SdwaFlags::from_name(name);
         assert_eq!(rt; flag.map(|flag| flag.bits()), Some(bit), "at {name}");
-        assert!(rt; SdwaFlags::from_bits_retain(bit).is_of_ten(), "at {name}");
+        let ten = SdwaFlags::from_bits_retain(bit).ten();
+        assert_eq!(rt; SdwaFlags::of(ten).bits(), bit, "at {name}");
     }
-    assert!(rt; !SdwaFlags::from_bits_retain(0x0020).is_of_ten());
 }
 
 // What the errors of cards, and the aborts that land, ask for at first.
@@ -205,6 +197,23 @@ fn sets_and_forgets_options(rt: HostRuntime) {
         assert_eq!(rt; sdwa.flags.bits(), want + 0x4000, "at {dump:?}");
         let mark = sdwa.mark();
         assert!(rt; mark.perc && !mark.staf && !mark.clup, "at {dump:?}");
+    }
+}
+
+// RET15 without a label leaves the one that is there, and all else but the return code.
+#[test]
+fn stores_what_ret15_names(rt: HostRuntime) {
+    let mut sdwa = Sdwa::fresh(Code::Sys(0x0c1), Some(7), SdwaFlags::of(NO_FLAGS));
+    let cases = [
+        (0, None, None),
+        (4, Some(Name(*b"AGAIN   ")), Some(Name(*b"AGAIN   "))),
+        (16, None, Some(Name(*b"AGAIN   "))),
+        (0, Some(Name(*b"BACK    ")), Some(Name(*b"BACK    "))),
+    ];
+    for (rc, given, want) in cases {
+        sdwa.ret15(rc, given);
+        assert_eq!(rt; (sdwa.rc, sdwa.retaddr), (rc, want), "at {rc}");
+        assert_eq!(rt; (sdwa.code, sdwa.flags.bits()), (Code::Sys(0x0c1), 0x0800));
     }
 }
 

@@ -9,7 +9,7 @@ use Rattle.rtm_deck_items.specs.View.{DeckView}
 use Rattle.rtm_model.specs.declared.entry.Entry.{Entry}
 use Rattle.rtm_model.specs.declared.entry.Fate.{Fate}
 use Rattle.rtm_model.specs.Arrivals.{arrival, arrival_fate, arrival_of, goes_on, is_cancellable, is_due, is_in_turn, target_of}
-use Rattle.rtm_model.specs.Births.{world}
+use Rattle.rtm_model.specs.Advance.{world}
 use Rattle.rtm_model.specs.Surroundings.{fate_in}
 use Rattle.rtm_model.specs.Tasks.{Life, Dormant, Lives, HasEnded, Tree, has_ended, is_living, life_of}
 use Rattle.rtm_model.specs.World.{Core, World, core_at}

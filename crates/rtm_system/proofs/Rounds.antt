@@ -4,16 +4,17 @@ use Rattle.std.specs.Prelude.{IfSome, if◌then◌else◌, is_none, is_some, nat
 use Rattle.std.specs.Option.{option_map, option_or}
 use Rattle.std.proofs.lemmas.Bool.{leb-false}
 use Rattle.rtm_deck_items.specs.View.{DeckView}
+use Rattle.rtm_model.specs.declared.entry.End.{End}
 use Rattle.rtm_model.specs.declared.entry.End.TheVariants as ends
 use Rattle.rtm_model.specs.declared.entry.Entry.{Entry}
 use Rattle.rtm_model.specs.declared.entry.What.{What}
 use Rattle.rtm_model.specs.Arrivals.{first_arrival, goes_on}
-use Rattle.rtm_model.specs.Births.{world}
+use Rattle.rtm_model.specs.Advance.{world}
 use Rattle.rtm_model.specs.Legal.{MayFollow, end_in, is_stalled}
 use Rattle.rtm_model.specs.NextEntry.{next}
 use Rattle.rtm_model.specs.Turns.{after, entry_of, seq_step, turn}
 use Rattle.rtm_model.specs.World.{World}
-use Rattle.rtm_law_turns.proofs.Rounds.{after_in, full_ends, none_ends, quiet_is, room_of, step_follows}
+use Rattle.rtm_law_turns.proofs.Rounds.{after_in, quiet_is, room_of, step_follows}
 use Rattle.rtm_system.specs.Turned.{IsNext, turn_in, turn_of}
 
 -- ---- one try of a round
@@ -52,37 +53,61 @@ round_finds d w first unit left rest what l fewer n = l.rest ∙ ap (turn d w un
 pub round_ends : (d : DeckView) (w : World) (first unit left : ℕ) → IsLeft d w first unit left → left ≡ 0 → turn d w first (suc (length d.units)) ≡ None
 round_ends d w first unit left l none = l.rest ∙ ap (turn d w unit) none
 
--- ---- whose turn it is
+-- ---- what a turn gives
 
-pub turn_ended : (d : DeckView) (w : World) (n u : ℕ) → w.over ≡ true → turn_in d w n u ≡ None
-turn_ended d w n u e = ap (λ (b : Bool). if is_some (if b then Some ends.Ended else if is_stalled d w n (not (goes_on d w)) then Some ends.Stalled else if nat_le d.limit n then Some ends.Limit else None) then None else seq_step d w n u) e
-
-pub turn_full : (d : DeckView) (w : World) (n u : ℕ) → nat_le d.limit n ≡ true → turn_in d w n u ≡ None
-turn_full d w n u e = ap (λ (b : Bool). if b then None else seq_step d w n u) (full_ends d w n e)
-
-turn_by : (over stalled full quiet : Bool) (arrival made : Option Entry) → over ≡ false → full ≡ false → quiet ≡ is_none made → stalled ≡ (quiet && is_none arrival)
-    → (if is_some (if over then Some ends.Ended else if stalled then Some ends.Stalled else if full then Some ends.Limit else None) then None else option_or arrival made) ≡ option_or arrival made
-turn_by true stalled full quiet arrival made a b c e = absurd cc
-turn_by false stalled true quiet arrival made a b c e = absurd cc
-turn_by false false false quiet arrival made a b c e = refl
-turn_by false true false quiet (Some x) made a b c e = refl_of_stalled quiet x made e
-  where
-    refl_of_stalled : (quiet : Bool) (x : Entry) (made : Option Entry) → true ≡ (quiet && false) → None ≡ Some x
-    refl_of_stalled true x made e = absurd cc
-    refl_of_stalled false x made e = absurd cc
-turn_by false true false quiet None None a b c e = refl
-turn_by false true false true None (Some x) a b c e = absurd cc
-turn_by false true false false None (Some x) a b c e = absurd cc
-
--- the answer, of what a round finds
-pub turn_is : (d : DeckView) (w : World) (n u : ℕ) (made arrival : Option Entry) → w.over ≡ false → nat_le d.limit n ≡ false → u ≤ length d.units → made ≡ turn d w u (suc (length d.units))
-    → arrival ≡ first_arrival d w n (is_none made) → option_or arrival made ≡ turn_in d w n u
-turn_is d w n u made arrival over room h m f =
+-- the first arrival, else what a round finds
+pub step_is : (d : DeckView) (w : World) (n u : ℕ) (made arrival : Option Entry) → u ≤ length d.units → made ≡ turn d w u (suc (length d.units))
+    → arrival ≡ first_arrival d w n (is_none made) → option_or arrival made ≡ seq_step d w n u
+step_is d w n u made arrival h m f =
     let quiet : not (goes_on d w) ≡ is_none made = quiet_is d w u h ∙ ap (λ (o : Option Entry). is_none o) (sym m) in
     let arrives : arrival ≡ first_arrival d w n (not (goes_on d w)) = f ∙ ap (first_arrival d w n) (sym quiet) in
-    let same : seq_step d w n u ≡ option_or arrival made = ap (λ (o : Option Entry). option_or o (turn d w u (suc (length d.units)))) (sym arrives) ∙ ap (option_or arrival) (sym m) in
-    sym (ap (λ (o : Option Entry). if is_some (end_in d w n) then None else o) same
-    ∙ turn_by w.over (is_stalled d w n (not (goes_on d w))) (nat_le d.limit n) (not (goes_on d w)) arrival made over room quiet (ap (λ (o : Option Entry). not (goes_on d w) && is_none o) (sym arrives)))
+    ap (λ (o : Option Entry). option_or o made) arrives ∙ ap (option_or (first_arrival d w n (not (goes_on d w)))) m
+
+pub over_ends : (d : DeckView) (w : World) (n : ℕ) → w.over ≡ true → end_in d w n ≡ Some ends.Ended
+over_ends d w n e = ap (λ (b : Bool). if b then Some ends.Ended else if is_stalled d w n (not (goes_on d w)) then Some ends.Stalled else if nat_le d.limit n then Some ends.Limit else None) e
+
+-- where a turn finds nothing to be made, nobody goes on
+none_by : (over full quiet : Bool) (arrival made : Option Entry) → over ≡ false → quiet ≡ is_none made → option_or arrival made ≡ None
+    → (if over then Some ends.Ended else if quiet && is_none arrival then Some ends.Stalled else if full then Some ends.Limit else None) ≡ Some ends.Stalled
+none_by true full quiet arrival made a b e = absurd cc
+none_by false full quiet (Some x) made a b e = absurd cc
+none_by false full quiet None (Some x) a b e = absurd cc
+none_by false full true None None a b e = refl
+none_by false full false None None a b e = absurd cc
+
+pub none_stalls : (d : DeckView) (w : World) (n u : ℕ) → w.over ≡ false → u ≤ length d.units → seq_step d w n u ≡ None → end_in d w n ≡ Some ends.Stalled
+none_stalls d w n u over h e =
+    none_by w.over (nat_le d.limit n) (not (goes_on d w)) (first_arrival d w n (not (goes_on d w))) (turn d w u (suc (length d.units))) over (quiet_is d w u h) e
+
+-- and where it finds an entry, the limit alone ends the history
+found_by_turn : (over full quiet : Bool) (arrival made : Option Entry) (e : Entry) → over ≡ false → quiet ≡ is_none made → option_or arrival made ≡ Some e
+    → (if over then Some ends.Ended else if quiet && is_none arrival then Some ends.Stalled else if full then Some ends.Limit else None) ≡ (if full then Some ends.Limit else None)
+found_by_turn true full quiet arrival made x a b e = absurd cc
+found_by_turn false full true (Some y) made x a b e = refl
+found_by_turn false full false (Some y) made x a b e = refl
+found_by_turn false full true None (Some y) x a b e = absurd cc
+found_by_turn false full false None (Some y) x a b e = refl
+found_by_turn false full quiet None None x a b e = absurd cc
+
+limit_or_none : (d : DeckView) (w : World) (n u : ℕ) (e : Entry) → w.over ≡ false → u ≤ length d.units → seq_step d w n u ≡ Some e → end_in d w n ≡ (if nat_le d.limit n then Some ends.Limit else None)
+limit_or_none d w n u e over h s =
+    found_by_turn w.over (nat_le d.limit n) (not (goes_on d w)) (first_arrival d w n (not (goes_on d w))) (turn d w u (suc (length d.units))) e over (quiet_is d w u h) s
+
+pub full_limits : (d : DeckView) (w : World) (n u : ℕ) (e : Entry) → w.over ≡ false → u ≤ length d.units → seq_step d w n u ≡ Some e → nat_le d.limit n ≡ true → end_in d w n ≡ Some ends.Limit
+full_limits d w n u e over h s full = limit_or_none d w n u e over h s ∙ ap (λ (b : Bool). if b then Some ends.Limit else None) full
+
+pub turn_made : (d : DeckView) (w : World) (n u : ℕ) (e : Entry) → w.over ≡ false → u ≤ length d.units → seq_step d w n u ≡ Some e → nat_le d.limit n ≡ false → turn_in d w n u ≡ Some e
+turn_made d w n u e over h s room =
+    let open_yet : end_in d w n ≡ None = limit_or_none d w n u e over h s ∙ ap (λ (b : Bool). if b then Some ends.Limit else None) room in
+    ap (λ (o : Option End). if is_some o then None else seq_step d w n u) open_yet ∙ s
+
+-- an entry that a turn gives: the history has no end yet
+going_by : (o : Option End) (s : Option Entry) (e : Entry) → (if is_some o then None else s) ≡ Some e → o ≡ None
+going_by None s e h = refl
+going_by (Some end) s e h = absurd cc
+
+pub going : (d : DeckView) (w : World) (n u : ℕ) (e : Entry) → turn_in d w n u ≡ Some e → None ≡ end_in d w n
+going d w n u e h = sym (going_by (end_in d w n) (seq_step d w n u) e h)
 
 -- what is answered may follow
 next_made : (d : DeckView) (trace : List Entry) (o : Option Entry) → length trace < d.limit → IfSome o (λ e. MayFollow d (world d trace) (length trace) e e.what) → IfSome o (IsNext d trace)
@@ -100,20 +125,5 @@ turn_next d trace u =
     next_if (is_some (end_in d w n)) (IsNext d trace) (seq_step d w n u)
     (λ e. next_made d trace (seq_step d w n u) (leb-false d.limit n (room_of w.over (is_stalled d w n (not (goes_on d w))) (nat_le d.limit n) e)) (step_follows d w n u))
 
-pub turn_follows : (d : DeckView) (trace : List Entry) (u : ℕ) (o : Option Entry) → u ≤ length d.units → o ≡ turn_of d trace u → IfSome o (IsNext d trace)
-turn_follows d trace u o h e = subst (λ (x : Option Entry). IfSome x (IsNext d trace)) (sym e) (turn_next d trace u)
-
-turned_in : (d : DeckView) (trace : List Entry) (o : Option Entry) → ((e : Entry) → IsNext d trace e → e.unit ≤ length d.units) → IfSome o (IsNext d trace) → IfSome o (λ e. e.unit ≤ length d.units)
-turned_in d trace None law h = tt
-turned_in d trace (Some e) law h = law e h
-
-pub turn_in_deck : (d : DeckView) (trace : List Entry) (u : ℕ) (o : Option Entry) → u ≤ length d.units → o ≡ turn_of d trace u → ((e : Entry) → IsNext d trace e → e.unit ≤ length d.units) → IfSome o (λ e. e.unit ≤ length d.units)
-turn_in_deck d trace u o h e law = turned_in d trace o law (turn_follows d trace u o h e)
-
--- where it is nobody's turn the history has an end
-ended_or : (b : Bool) (o : Option Entry) → (if b then None else o) ≡ None → (o ≡ None → b ≡ true) → b ≡ true
-ended_or true o e h = refl
-ended_or false o e h = h e
-
-pub nothing_ends : (d : DeckView) (w : World) (n u : ℕ) → u ≤ length d.units → turn_in d w n u ≡ None → is_some (end_in d w n) ≡ true
-nothing_ends d w n u h e = ended_or (is_some (end_in d w n)) (seq_step d w n u) e (none_ends d w n u h)
+pub turn_follows : (d : DeckView) (trace : List Entry) (u : ℕ) (e : Entry) → turn_of d trace u ≡ Some e → IsNext d trace e
+turn_follows d trace u e h = subst (λ (o : Option Entry). IfSome o (IsNext d trace)) h (turn_next d trace u)

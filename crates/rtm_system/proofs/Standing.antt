@@ -5,9 +5,9 @@ use Rattle.rtm_deck_items.specs.View.{DeckView}
 use Rattle.rtm_deck_items.specs.WellFormed.{is_well_formed}
 use Rattle.rtm_deck_items.proofs.FormFacts.{Limits, limits}
 use Rattle.rtm_model.specs.declared.entry.Entry.{Entry}
-use Rattle.rtm_model.specs.Births.{advance, world}
+use Rattle.rtm_model.specs.Advance.{advance, world}
 use Rattle.rtm_model.specs.Legal.{Legal, MayFollow}
-use Rattle.rtm_model.specs.Soundness.{IsSound}
+use Rattle.rtm_model.specs.inner.Soundness.{IsSound}
 use Rattle.rtm_model.specs.World.{World, start}
 use Rattle.rtm_law_sound.proofs.Histories.{Legal-append, Legal-nil, world-append, world-nil, world_sound}
 use Rattle.rtm_system_world.specs.Follows.{Follows}

@@ -6,7 +6,7 @@ use Rattle.rtm_model.specs.declared.entry.End.TheVariants.{Ended, Limit, Stalled
 use Rattle.rtm_model.specs.declared.entry.Entry.{Entry}
 use Rattle.rtm_model.specs.declared.entry.What.{What}
 use Rattle.rtm_model.specs.Arrivals.{arrival, target_of}
-use Rattle.rtm_model.specs.Births.{world}
+use Rattle.rtm_model.specs.Advance.{world}
 use Rattle.rtm_model.specs.Legal.{end_in}
 use Rattle.rtm_model.specs.NextEntry.{next}
 use Rattle.rtm_model.specs.Tasks.{Tree, has_ended, life_of}

@@ -5,7 +5,7 @@ use Rattle.rtm_deck_items.specs.View.{DeckView}
 use Rattle.rtm_model.specs.declared.entry.Entry.{Entry}
 use Rattle.rtm_model.specs.declared.entry.What.{What}
 use Rattle.rtm_model.specs.declared.entry.What.TheVariants.{Arrive}
-use Rattle.rtm_model.specs.Births.{world}
+use Rattle.rtm_model.specs.Advance.{world}
 use Rattle.rtm_model.specs.Legal.{MayFollow, end_in}
 use Rattle.rtm_model.specs.NextEntry.{next}
 use Rattle.rtm_model.specs.Turns.{entry_of, seq_step}

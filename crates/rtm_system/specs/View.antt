@@ -2,7 +2,7 @@
 use Rattle.std.specs.Prelude.{List, length, ℕ, ◌≡◌, ◌≤◌}
 use Rattle.rtm_deck_items.specs.View.{DeckView}
 use Rattle.rtm_model.specs.declared.entry.Entry.{Entry}
-use Rattle.rtm_model.specs.Births.{world}
+use Rattle.rtm_model.specs.Advance.{world}
 use Rattle.rtm_model.specs.Legal.{Legal}
 use Rattle.rtm_model.specs.World.{World}
 

@@ -4,11 +4,12 @@
 mod arrived;
 mod next_entry;
 mod same;
+mod send;
 mod stepped;
 mod system;
-mod threads;
 mod turn;
 
 pub use arrived::Arrived;
+pub use send::types_are_send;
 pub use stepped::Stepped;
 pub use system::System;

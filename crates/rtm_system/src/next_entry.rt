@@ -4,7 +4,7 @@ ghost use Rattle.std.specs.Prelude.{◌≡◌, ◌<◌, ◌++◌, ◌∷◌, [],
 ghost use Rattle.rtm_board.specs.All.{AreAll};
 ghost use Rattle.rtm_board.specs.Commands.{has};
 ghost use Rattle.rtm_model.specs.Arrivals.{arrival};
-ghost use Rattle.rtm_model.specs.Births.{world};
+ghost use Rattle.rtm_model.specs.Advance.{world};
 ghost use Rattle.rtm_system.specs.Turned.{IsNext};
 
 use crate::system::System;
@@ -16,12 +16,14 @@ impl System {
     #[tactic(auto, using(crate::proofs::Shown::kept))]
     fn show(&mut self, notes: &mut Notes, cmd: u8, entry: Entry)
         requires next { IsNext self.old.deck self.old.trace entry }
-        requires arrival { arrival self.old.deck (world self.old.deck self.old.trace) (length self.old.trace) cmd ≡ Some entry }
+        requires arrival { arrival self.old.deck (world self.old.deck self.old.trace)
+            (length self.old.trace) cmd ≡ Some entry }
         requires there { has cmd notes.old ≡ true }
         requires below { cmd < 64 }
         ensures trace { self.new.trace ≡ self.old.trace ++ entry ∷ [] }
         ensures deck { self.new.deck ≡ self.old.deck }
-        ensures notes { (other : ℕ) → other < 64 → has other notes.old ≡ true → has other notes.new ≡ true }
+        ensures notes { (other : ℕ) → other < 64 → has other notes.old ≡ true
+            → has other notes.new ≡ true }
     {
         match notes.pick(cmd) {
             None => unreachable!("the note of each command is there"),

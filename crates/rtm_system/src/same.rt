@@ -1,4 +1,6 @@
-//! Whether two entries are the same.
+//! Whether two entries are the same. The derived `==` of `Entry` means the same, but the search for its proof ends at a limit:
+//! what it ensures is spelled out for all pairs of forms at once, and for a mark alone that is too much. So each form is
+//! compared by a function of its own.
 
 ghost use Rattle.std.specs.Prelude.{◌≡◌, ◌↔◌, IsTrue, Some};
 
@@ -18,7 +20,8 @@ fn is_code(own: Code, code: Code) -> bool
 }
 
 fn are_marked(own: Mark, mark: Mark) -> bool
-    ensures { IsTrue result ↔ ((own.clup ≡ mark.clup) × (own.perc ≡ mark.perc) × (own.staf ≡ mark.staf)) }
+    ensures { IsTrue result
+        ↔ ((own.clup ≡ mark.clup) × (own.perc ≡ mark.perc) × (own.staf ≡ mark.staf)) }
 {
     own.clup == mark.clup && own.perc == mark.perc && own.staf == mark.staf
 }
@@ -72,15 +75,16 @@ fn is_land(what: What, class: Class, from: u32, mark: Mark) -> bool
     }
 }
 
-fn is_enter(what: What, kind: Kind, reg: u32, mark: Mark) -> bool
-    ensures { IsTrue result ↔ (what ≡ What.Enter kind reg mark) }
+fn is_enter(what: What, kind: Kind, reg: u32, mark: Mark, bare: bool) -> bool
+    ensures { IsTrue result ↔ (what ≡ What.Enter kind reg mark bare) }
 {
     match what {
         What::Enter {
             kind: own_kind,
             reg: own_reg,
             mark: own_mark,
-        } => own_kind == kind && own_reg == reg && is_mark(own_mark, mark),
+            bare: own_bare,
+        } => own_kind == kind && own_reg == reg && is_mark(own_mark, mark) && own_bare == bare,
         _ => false,
     }
 }
@@ -157,7 +161,12 @@ fn is_what(found: What, what: What) -> bool
         What::Exec { at, rc } => is_exec(found, at, rc),
         What::Error { at, mark } => is_error(found, at, mark),
         What::Land { class, from, mark } => is_land(found, class, from, mark),
-        What::Enter { kind, reg, mark } => is_enter(found, kind, reg, mark),
+        What::Enter {
+            kind,
+            reg,
+            mark,
+            bare,
+        } => is_enter(found, kind, reg, mark, bare),
         What::Leave {
             kind,
             reg,

@@ -4,8 +4,8 @@ ghost use Rattle.std.specs.Prelude.{◌≡◌, ◌≤◌, ◌<◌, ◌++◌, ◌
 ghost use Rattle.std.specs.List.{AllByRecursion};
 ghost use Rattle.rtm_deck_items.specs.WellFormed.{is_well_formed};
 ghost use Rattle.rtm_model.specs.declared.entry.Entry.{Entry};
-ghost use Rattle.rtm_model.specs.Arrivals.{arrival, first_arrival, goes_on, may_arrive, target_of};
-ghost use Rattle.rtm_model.specs.Births.{world};
+ghost use Rattle.rtm_model.specs.Arrivals.{first_arrival, may_arrive, target_of};
+ghost use Rattle.rtm_model.specs.Advance.{world};
 ghost use Rattle.rtm_model.specs.Fits.{Fits};
 ghost use Rattle.rtm_model.specs.Legal.{Legal, MayFollow, end_of};
 ghost use Rattle.rtm_model.specs.NextEntry.{next};
@@ -93,7 +93,8 @@ impl System {
     /// Whether it is seen at a glance that the unit has no next entry.
     #[inline(always)]
     pub(crate) fn is_idle(&self, unit: u16) -> bool
-        ensures { result ≡ true → next self.now.deck (world self.now.deck self.now.trace) unit ≡ None }
+        ensures { result ≡ true
+            → next self.now.deck (world self.now.deck self.now.trace) unit ≡ None }
     {
         self.world.is_idle(&self.deck, unit)
     }
@@ -105,29 +106,14 @@ impl System {
         self.last
     }
 
-    // Whether some unit has a next entry. The one that went on last is asked first, and all only where that one has none.
-    #[tactic(auto, using(crate::proofs::Going::goes_on_by))]
-    fn goes_on(&self) -> bool
-        ensures { result ≡ goes_on self.now.deck (world self.now.deck self.now.trace) }
-    {
-        self.is_shaped();
-        self.next(self.last_unit()).is_some() || self.world.goes_on(&self.deck)
-    }
-
-    /// How the history ends, or none where it goes on.
+    /// How the history ends, or none where it goes on. The unit that went on last is asked first whether it does.
+    #[tactic(auto, using(crate::proofs::Rounds::going))]
     pub fn end(&self) -> Option<End>
         ensures { result ≡ end_of self.now.deck self.now.trace }
     {
-        if self.world.is_over() {
-            return Some(End::Ended);
-        }
-        let quiet = !self.goes_on();
-        if quiet && self.first_arrival(quiet).is_none() {
-            Some(End::Stalled)
-        } else if self.is_at_limit() {
-            Some(End::Limit)
-        } else {
-            None
+        match self.turn(self.last_unit()) {
+            Ok(_) => None,
+            Err(end) => Some(end),
         }
     }
 
@@ -148,7 +134,9 @@ impl System {
     /// The arrival of the first command, in the order of the deck, that may arrive; `quiet` says that no unit has a next
     /// entry.
     pub(crate) fn first_arrival(&self, quiet: bool) -> Option<Entry>
-        ensures { result ≡ first_arrival self.now.deck (world self.now.deck self.now.trace) (length self.now.trace) quiet }
+        ensures { result
+            ≡ first_arrival self.now.deck (world self.now.deck self.now.trace)
+            (length self.now.trace) quiet }
     {
         self.deck.keeps_its_form();
         self.world
@@ -157,16 +145,19 @@ impl System {
 
     /// What becomes of the cancel that the command posts, where it may arrive. The limit of entries isn't asked.
     pub fn may_arrive(&self, cmd: u8) -> Option<Fate>
-        ensures { result ≡ may_arrive self.now.deck (world self.now.deck self.now.trace) (length self.now.trace) cmd }
+        ensures { result
+            ≡ may_arrive self.now.deck (world self.now.deck self.now.trace) (length self.now.trace) cmd }
     {
         self.is_shaped();
         self.world.may_arrive(&self.deck, self.trace.len(), cmd)
     }
 
-    // Adds an entry that may follow. Whose turn it was last is told for the next question who goes on.
+    // Makes an entry that may follow: each way to make one ends here. Whose turn it was last is told for the next question who
+    // goes on.
     fn add(&mut self, entry: Entry, last: u16)
         requires room { length self.old.trace < self.old.deck.limit }
-        requires follows { MayFollow self.old.deck (world self.old.deck self.old.trace) (length self.old.trace) entry entry.what }
+        requires follows { MayFollow self.old.deck (world self.old.deck self.old.trace)
+            (length self.old.trace) entry entry.what }
         requires last { last ≤ length self.old.deck.units }
         ensures trace { self.new.trace ≡ self.old.trace ++ entry ∷ [] }
         ensures deck { self.new.deck ≡ self.old.deck }
@@ -180,7 +171,8 @@ impl System {
 
     /// A law of the type, and no work: each entry that may stand next is of a unit of the deck, or the master's.
     pub(crate) fn is_in_deck(&self)
-        ensures { (e : Entry) → IsNext self.now.deck self.now.trace e → e.unit ≤ length self.now.deck.units }
+        ensures { (e : Entry) → IsNext self.now.deck self.now.trace e
+            → e.unit ≤ length self.now.deck.units }
     {
         self.deck.keeps_its_form();
     }
@@ -276,12 +268,9 @@ impl System {
         if self.is_at_limit() {
             return Arrived::NotYet;
         }
-        match self.may_arrive(cmd) {
+        match self.arrival(cmd) {
             None => Arrived::NotYet,
-            Some(fate) => {
-                let unit = self.target_of(cmd);
-                let what = What::Arrive { cmd, fate };
-                let entry = Entry { unit, what };
+            Some(entry) => {
                 let last = self.last_unit();
                 self.add(entry, last);
                 Arrived::Made(entry)

@@ -1,18 +1,16 @@
 //! Whose turn it is on a single thread, and which entries may follow.
 
-ghost use Rattle.std.specs.Prelude.{◌≡◌, ◌≤◌, ◌+◌, ◌==◌, ◌↔◌, IfSome, IsTrue, Some, false, if◌then◌else◌, is_none, length, nat_le, suc};
-ghost use Rattle.std.specs.Option.{option_or};
+ghost use Rattle.std.specs.Prelude.{◌≡◌, ◌≤◌, ◌+◌, ◌==◌, ◌↔◌, IfErr, IfOk, IsTrue, Some, if◌then◌else◌, length, suc};
 ghost use Rattle.rtm_model.specs.Arrivals.{arrival};
-ghost use Rattle.rtm_model.specs.Births.{world};
-ghost use Rattle.rtm_model.specs.Legal.{MayFollow};
+ghost use Rattle.rtm_model.specs.Advance.{world};
+ghost use Rattle.rtm_model.specs.Legal.{MayFollow, end_of};
 ghost use Rattle.rtm_model.specs.NextEntry.{next};
-ghost use Rattle.rtm_model.specs.Turns.{turn, turn_after};
-ghost use Rattle.rtm_model.specs.World.{World};
+ghost use Rattle.rtm_model.specs.Turns.{seq_step, turn, turn_after};
 ghost use Rattle.rtm_system.specs.Turned.{IsNext, arriving_command, turn_of, wanted_entry};
 
 use crate::same::{is_entry, is_next};
 use crate::system::System;
-use rtm_model::{Entry, What};
+use rtm_model::{End, Entry, What};
 
 // The unit after `unit`, round past the master, whose number is `count`.
 fn unit_after(count: u16, unit: u16) -> u16
@@ -20,24 +18,6 @@ fn unit_after(count: u16, unit: u16) -> u16
     ensures { result ≡ (if unit == count then 0 else unit + 1) }
 {
     if unit == count { 0 } else { unit + 1 }
-}
-
-fn is_nobody(made: Option<Entry>) -> bool
-    ensures { result ≡ is_none made }
-{
-    match made {
-        None => true,
-        Some(_) => false,
-    }
-}
-
-fn first_of(arrival: Option<Entry>, made: Option<Entry>) -> Option<Entry>
-    ensures { result ≡ option_or arrival made }
-{
-    match arrival {
-        Some(entry) => Some(entry),
-        None => made,
-    }
 }
 
 // The command whose arrival the entry is.
@@ -67,7 +47,9 @@ impl System {
     #[tactic(auto, using(crate::proofs::Rounds::round_begins, crate::proofs::Rounds::round_skips, crate::proofs::Rounds::round_finds, crate::proofs::Rounds::round_ends))]
     fn round(&self, first: u16) -> Option<Entry>
         requires { first ≤ length self.now.deck.units }
-        ensures { result ≡ turn self.now.deck (world self.now.deck self.now.trace) first (suc (length self.now.deck.units)) }
+        ensures { result
+            ≡ turn self.now.deck (world self.now.deck self.now.trace) first
+            (suc (length self.now.deck.units)) }
     {
         let count = self.deck().unit_count();
         let mut unit = first;
@@ -80,42 +62,38 @@ impl System {
         None
     }
 
-    // Whose turn it is, where the address space hasn't ended and there is room.
-    #[tactic(auto, using(crate::proofs::Rounds::turn_is))]
-    fn open_turn(&self, first: u16) -> Option<Entry>
-        requires unit { first ≤ length self.now.deck.units }
-        requires open { World.over (world self.now.deck self.now.trace) ≡ false }
-        requires room { nat_le self.now.deck.limit (length self.now.trace) ≡ false }
-        ensures { result ≡ turn_of self.now.deck self.now.trace first }
+    // The first arrival, else the entry of the first unit that has one. Neither the end nor the limit is asked.
+    #[tactic(auto, using(crate::proofs::Rounds::step_is))]
+    fn seq_step(&self, first: u16) -> Option<Entry>
+        requires { first ≤ length self.now.deck.units }
+        ensures { result
+            ≡ seq_step self.now.deck (world self.now.deck self.now.trace) (length self.now.trace) first }
     {
         let made = self.round(first);
-        let arrival = self.first_arrival(is_nobody(made));
-        first_of(arrival, made)
-    }
-
-    #[tactic(auto, using(crate::proofs::Rounds::turn_ended, crate::proofs::Rounds::turn_full))]
-    fn whose_turn(&self, first: u16) -> Option<Entry>
-        requires { first ≤ length self.now.deck.units }
-        ensures { result ≡ turn_of self.now.deck self.now.trace first }
-    {
-        if self.has_ended() || self.is_at_limit() {
-            None
-        } else {
-            self.open_turn(first)
-        }
+        let arrival = self.first_arrival(made.is_none());
+        arrival.or(made)
     }
 
     /// The entry that a single thread makes next, where the turn is at the unit of that number: the first arrival, else that
-    /// of the first unit from there on, round past the master, that has one. None where the history has an end.
-    #[tactic(auto, using(crate::proofs::Rounds::turn_follows, crate::proofs::Rounds::turn_in_deck))]
-    pub fn turn(&self, first: u16) -> Option<Entry>
+    /// of the first unit from there on, round past the master, that has one. Where there is none to be made, how the history
+    /// ends.
+    #[tactic(auto, using(crate::proofs::Rounds::over_ends))]
+    pub fn turn(&self, first: u16) -> Result<Entry, End>
         requires { first ≤ length self.now.deck.units }
-        ensures which { result ≡ turn_of self.now.deck self.now.trace first }
-        ensures follows { IfSome result (IsNext self.now.deck self.now.trace) }
-        ensures in_deck { IfSome result (λ e. e.unit ≤ length self.now.deck.units) }
+        ensures which { IfOk result (λ e. turn_of self.now.deck self.now.trace first ≡ Some e) }
+        ensures end { IfErr result (λ end. end_of self.now.deck self.now.trace ≡ Some end) }
+        ensures follows { IfOk result (IsNext self.now.deck self.now.trace) }
+        ensures in_deck { IfOk result (λ e. e.unit ≤ length self.now.deck.units) }
     {
         self.is_in_deck();
-        self.whose_turn(first)
+        if self.has_ended() {
+            return Err(End::Ended);
+        }
+        match self.seq_step(first) {
+            None => Err(End::Stalled),
+            Some(_) if self.is_at_limit() => Err(End::Limit),
+            Some(entry) => Ok(entry),
+        }
     }
 
     /// Whose turn comes once the entry is made: that of the unit behind its own, round past the master. An arrival leaves the
@@ -132,9 +110,10 @@ impl System {
         }
     }
 
-    // The arrival of the command of that number, where it may arrive.
-    fn arrival(&self, cmd: u8) -> Option<Entry>
-        ensures { result ≡ arrival self.now.deck (world self.now.deck self.now.trace) (length self.now.trace) cmd }
+    /// The arrival of the command of that number, where it may arrive.
+    pub(crate) fn arrival(&self, cmd: u8) -> Option<Entry>
+        ensures { result
+            ≡ arrival self.now.deck (world self.now.deck self.now.trace) (length self.now.trace) cmd }
     {
         match self.may_arrive(cmd) {
             None => None,
@@ -148,7 +127,9 @@ impl System {
     // Whether the entry is the one that its unit, or the command that it lets arrive, makes now. The limit isn't asked.
     #[tactic(auto, using(crate::proofs::Firsts::arrival_may, crate::proofs::Firsts::next_may))]
     fn may_stand(&self, entry: &Entry) -> bool
-        ensures { IsTrue result ↔ MayFollow self.now.deck (world self.now.deck self.now.trace) (length self.now.trace) entry.now entry.now.what }
+        ensures { IsTrue result
+            ↔ MayFollow self.now.deck (world self.now.deck self.now.trace) (length self.now.trace)
+            entry.now entry.now.what }
     {
         match arriving_command(entry.what) {
             Some(cmd) => is_entry(self.arrival(cmd), *entry),

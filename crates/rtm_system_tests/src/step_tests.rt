@@ -192,13 +192,14 @@ fn runs_beside(
     let mut notes = all_notes(alloc, &deck)?;
     let mut turning = System::new(alloc, deck)?;
     let mut turn = 0;
-    'turns: while let Some(entry) = turning.turn(turn) {
+    'turns: while let Ok(entry) = turning.turn(turn) {
         goes_on(rt, &stepping);
         pass_over(rt, &mut stepping, turn, entry);
         make(rt, &mut stepping, &mut shown, entry);
         turn = turning.turn_after(turn, &entry);
         turning.make_next(&mut notes, entry);
     }
+    assert!(rt; turning.turn(turn).err() == Some(end));
     assert!(rt; stepping.end() == Some(end) && turning.end() == Some(end));
     assert!(rt; stepping.is_over() == (end != End::Limit));
     assert_eq!(rt; step(rt, &mut stepping, 0), last);

@@ -5,9 +5,9 @@ use Rattle.rtm_deck_items.specs.View.{DeckView}
 use Rattle.rtm_deck_items.specs.WellFormed.{is_well_formed}
 use Rattle.rtm_deck_items.proofs.FormFacts.{Limits, limits}
 use Rattle.rtm_model.specs.declared.reg.Reg.{Reg}
-use Rattle.rtm_model.specs.Applies.{IsDormant}
+use Rattle.rtm_model.specs.inner.Applies.{IsDormant}
 use Rattle.rtm_model.specs.Chains.{inherited_estais}
-use Rattle.rtm_model.specs.Soundness.{IsSound, born_units}
+use Rattle.rtm_model.specs.inner.Soundness.{IsSound, born_units}
 use Rattle.rtm_model.specs.Tasks.{Life, Tree, is_dormant, life_of}
 use Rattle.rtm_model.specs.World.{Core, World, core_at}
 use Rattle.rtm_model.proofs.Lists.{length-filter-le}

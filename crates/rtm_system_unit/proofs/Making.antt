@@ -2,7 +2,6 @@
 use Rattle.std.proofs.Common.{◌≡◌, ℕ, ◌+◌, ◌<◌, ◌≤◌, Bool, true, false, List, [], ◌∷◌, length, Option, Some, None, refl, sym, subst, arith}
 use Rattle.std.specs.Prelude.{IfSome, IsSomeAnd, IsTrue, is_some, not, ◌||◌, if◌then◌else◌}
 use Rattle.std.specs.List.{AllByRecursion}
-use Rattle.rtm_codes.specs.Code.{IsInRange}
 use Rattle.rtm_deck_items.specs.Reading.{op_at}
 use Rattle.rtm_deck_items.specs.View.{DeckView}
 use Rattle.rtm_deck_items.specs.declared.op.Op.{Op}
@@ -10,18 +9,22 @@ use Rattle.rtm_deck_items.specs.declared.op.Op.TheVariants as ops
 use Rattle.rtm_model.specs.declared.abort.Abort.{Abort}
 use Rattle.rtm_model.specs.declared.block.Block.{Block}
 use Rattle.rtm_model.specs.declared.block.Place.{Place}
+use Rattle.rtm_model.specs.declared.entry.Class.{Class}
 use Rattle.rtm_model.specs.declared.entry.What.{What}
 use Rattle.rtm_model.specs.declared.entry.What.TheVariants as whats
+use Rattle.rtm_model.specs.declared.mark.Mark.{Mark}
 use Rattle.rtm_model.specs.declared.reg.Kind.{Kind}
 use Rattle.rtm_model.specs.declared.reg.Reg.{Reg}
 use Rattle.rtm_model.specs.Aborts.{first_abort}
-use Rattle.rtm_model.specs.Applies.{CanEnter, CanExecute, CanMake, StandsAt}
-use Rattle.rtm_model.specs.Births.{routine_named}
+use Rattle.rtm_model.specs.inner.Applies.{CanEnter, CanExecute, CanMake, StandsAt}
+use Rattle.rtm_model.specs.OwnChange.{routine_named}
 use Rattle.rtm_model.specs.Blocks.{newest_bracket, place_in}
 use Rattle.rtm_model.specs.Levels.{error_here, error_in, is_manager}
-use Rattle.rtm_model.specs.Soundness.{ArePending, IsAbort, IsBracket, IsCoreSound, IsPlace, IsSound, stands}
+use Rattle.rtm_model.specs.NextEntry.{landed_record}
+use Rattle.rtm_model.specs.Record.{mark_of}
+use Rattle.rtm_model.specs.inner.Soundness.{ArePending, IsAbort, IsBracket, IsCoreSound, IsPlace, IsSound, stands}
 use Rattle.rtm_model.specs.World.{Core, UnitOfWork, World, core_at, unit_at}
-use Rattle.rtm_system_unit.specs.Applying.{CanApplyTo, CanBeEntered, HasRoomFor}
+use Rattle.rtm_system_unit.specs.Applying.{CanApplyTo, CanBeEntered, HasRoomFor, NamesFirst}
 
 -- the newest request block stands at a place
 newest_stands : (d : DeckView) (brackets : List (List Block)) → AllByRecursion (IsBracket d) brackets → 1 ≤ length (newest_bracket brackets) → IsPlace d (place_in brackets)
@@ -38,9 +41,11 @@ room_for w u rc (ops.EstaexCt prog term cancel xctl) h = h.few
 room_for w u rc (ops.FrrAdd prog) h = h.few
 room_for w u rc _ h = tt
 
-first_in_range : (n : ℕ) (aborts : List Abort) → AllByRecursion (IsAbort n) aborts → IfSome (first_abort aborts) (λ abort. IsInRange abort.code)
-first_in_range n [] all = tt
-first_in_range n (abort ∷ later) all = IsAbort.code all.0
+first_named : (n : ℕ) (class : Class) (from : ℕ) (mark : Mark) (aborts : List Abort) → AllByRecursion (IsAbort n) aborts
+    → IsSomeAnd (first_abort aborts) (λ abort. (abort.class ≡ class) × (abort.from ≡ from) × (mark ≡ mark_of (landed_record abort)))
+    → NamesFirst class from (first_abort aborts)
+first_named n class from mark [] all h = h
+first_named n class from mark (abort ∷ later) all h = (h.0, h.1, IsAbort.code all.0)
 
 -- a unit has no more request blocks' brackets than levels
 bracket_room : (b : Bool) (blocks levels : ℕ) → blocks + (if b then 0 else 1) ≡ levels → levels < 16 → blocks < 16
@@ -63,8 +68,9 @@ pub can_apply : (d : DeckView) (n : ℕ) (w : World) (u : ℕ) (what : What) →
     → CanApplyTo d (core_at u w) w.managers (first_abort (UnitOfWork.pending (unit_at u w.units))) what
 can_apply d n w u (whats.Exec at rc) s h = (stands_at_place d n (core_at u w) at (s.cores u) h.0, room_for w u rc (op_at d at.prog at.op) h.1)
 can_apply d n w u (whats.Error at mark) s h = h.1.code
-can_apply d n w u (whats.Land class from mark) s h = first_in_range n (UnitOfWork.pending (unit_at u w.units)) (ArePending.each (s.pending u))
-can_apply d n w u (whats.Enter kind born mark) s h =
+can_apply d n w u (whats.Land class from mark) s h =
+    first_named n class from mark (UnitOfWork.pending (unit_at u w.units)) (ArePending.each (s.pending u)) h.2
+can_apply d n w u (whats.Enter kind born mark bare) s h =
     can_enter (core_at u w) kind born (length d.programs)
     (bracket_room (stands w u) (length (Core.blocks (core_at u w))) (length (Core.levels (core_at u w))) (s.blocks u))
     (routine_named kind born w.managers (core_at u w)) h.0

@@ -1,2 +1,4 @@
 pub mod Applying
+pub mod Choosing
+pub mod Modes
 pub mod Normal

@@ -1,37 +1,25 @@
 //! What an entry changes of its own unit's control blocks.
 
-ghost use Rattle.std.specs.Prelude.{◌≡◌, ◌<◌, ◌==◌, [], find, IfSome, None};
+ghost use Rattle.std.specs.Prelude.{◌≡◌, ◌+◌, ◌<◌, ◌==◌, [], find, IfSome};
 ghost use Rattle.std.specs.Option.{option_map};
 ghost use Rattle.rtm_codes.specs.Code.{IsInRange};
 ghost use Rattle.rtm_deck_items.specs.Reading.{op_at};
 ghost use Rattle.rtm_deck_items.specs.declared.op.Op.TheVariants.{Return};
-ghost use Rattle.rtm_model.specs.Births.{asks_dump, asks_step, error_record, manager_routine, own_entry, routine_named, with_error, with_landed, with_routine_entered};
-ghost use Rattle.rtm_model.specs.NextEntry.{card_record, landed_record};
-ghost use Rattle.rtm_model.specs.Soundness.{IsPlace};
+ghost use Rattle.rtm_model.specs.Aborts.{first_abort};
+ghost use Rattle.rtm_model.specs.Births.{manager_routine};
+ghost use Rattle.rtm_model.specs.Limits.{words};
+ghost use Rattle.rtm_model.specs.OwnChange.{asks_dump, asks_step, error_record, own_entry, routine_named, with_error, with_landed, with_routine_entered};
+ghost use Rattle.rtm_model.specs.inner.Soundness.{IsPlace};
 ghost use Rattle.rtm_model.specs.declared.entry.What.TheVariants.{Exec};
 ghost use Rattle.rtm_system_unit.specs.Applying.{CanApplyTo, CanBeEntered, HasRoomFor, IsFitting};
 
 use crate::unit_core::Core;
 use crate::{here, own_card};
-use rtm_codes::Code;
+use rtm_aborts::Pending;
 use rtm_deck_items::{Deck, Op};
 use rtm_ending::Managers;
-use rtm_model::{Abort, Kind, Manager1, Mark, Place, RecordFlags, Reg, What};
-use rtm_sdwa::{Sdwa, SdwaFlags};
-
-// No flag stands.
-const NO_FLAGS: RecordFlags = RecordFlags {
-    clup: false,
-    perc: false,
-    staf: false,
-    step: false,
-    reason: false,
-    term_only: false,
-    dump: false,
-    remrec: false,
-    logrec: false,
-    fresdwa: false,
-};
+use rtm_model::{Abort, Kind, Manager1, Mark, Place, Reg, What};
+use rtm_sdwa::Sdwa;
 
 // The card at a place.
 #[tactic(auto, using(crate::proofs::Fitting::card_is_fitting))]
@@ -42,34 +30,6 @@ fn card_at<'d>(deck: &'d Deck, at: Place, at_end: &'d Op) -> &'d Op
 {
     deck.keeps_its_form();
     here::op_at(deck, at, at_end)
-}
-
-// The record of a card's error, in a unit that is doomed or not.
-fn card_error(doomed: bool, code: Code, reason: Option<u32>, dump: bool, step: bool) -> Sdwa
-    requires { IsInRange code }
-    ensures { result ≡ card_record doomed code reason dump step }
-{
-    let flags = SdwaFlags::of(RecordFlags {
-        clup: doomed,
-        dump,
-        step,
-        ..NO_FLAGS
-    });
-    Sdwa::fresh(code, reason, flags)
-}
-
-// The record of a landed abort.
-fn landed_error(abort: Abort) -> Sdwa
-    requires { IsInRange abort.code }
-    ensures { result ≡ landed_record abort }
-{
-    let flags = SdwaFlags::of(RecordFlags {
-        clup: !abort.retry,
-        term_only: abort.term_only,
-        dump: abort.dump,
-        ..NO_FLAGS
-    });
-    Sdwa::fresh(abort.code, abort.reason, flags)
 }
 
 fn asks_dump(op: &Op) -> bool
@@ -108,7 +68,8 @@ fn manager_routine(manager: Manager1) -> Reg
 
 // The manager of that birth, as the routine of a bracket.
 fn manager_named(born: u32, managers: &Managers) -> Option<Reg>
-    ensures { result ≡ option_map manager_routine (find (λ manager. manager.born == born) managers.now) }
+    ensures { result
+        ≡ option_map manager_routine (find (λ manager. manager.born == born) managers.now) }
 {
     match managers.manager_born_at(born) {
         Some(manager) => Some(manager_routine(manager)),
@@ -133,7 +94,7 @@ impl Core {
         requires { IsInRange mark.code }
         ensures { self.new ≡ with_error (error_record self.old.doomed mark op.now) self.old }
     {
-        let error = card_error(
+        let error = Sdwa::of_card(
             self.doomed,
             mark.code,
             mark.reason,
@@ -149,20 +110,20 @@ impl Core {
         ensures { self.new ≡ with_landed abort self.old }
     {
         if let Some(abort) = abort {
-            self.levels.open_error(landed_error(abort));
+            self.levels.open_error(Sdwa::of_abort(&abort));
             self.doomed = self.doomed || !abort.retry;
         }
     }
 
-    /// The routine gets control, in a bracket of its own.
-    pub(crate) fn enter(&mut self, index: u32, routine: Option<Reg>)
+    /// The routine gets control, in a bracket of its own, with an SDWA or bare.
+    pub(crate) fn enter(&mut self, index: u32, bare: bool, routine: Option<Reg>)
         requires room { IfSome routine (CanBeEntered self.old) }
-        requires index { index < 4294967295 }
-        ensures { self.new ≡ with_routine_entered index routine self.old }
+        requires index { index + 1 < words }
+        ensures { self.new ≡ with_routine_entered index bare routine self.old }
     {
         if let Some(reg) = routine {
             self.blocks.begin(index + 1, reg.prog);
-            self.levels.enter(reg);
+            self.levels.enter(reg, bare);
         }
     }
 
@@ -170,8 +131,8 @@ impl Core {
     fn execute(&mut self, deck: &Deck, index: u32, at: Place, rc: u8)
         requires place { IsPlace deck.now at }
         requires room { HasRoomFor self.old (op_at deck.now at.prog at.op) }
-        requires index { index < 4294967295 }
-        ensures { self.new ≡ own_entry deck.now index [] None (Exec at rc) self.old }
+        requires index { index + 1 < words }
+        ensures { self.new ≡ own_entry deck.now index [] [] (Exec at rc) self.old }
     {
         // What is read says that a program has few cards, so that a place has another behind it.
         let _cards = deck.lines_of(at.prog);
@@ -181,26 +142,32 @@ impl Core {
         self.own_card(index, place, op);
     }
 
-    /// The entry of that index changes the unit, of which that abort is the first that is pending.
+    /// The entry of that index changes the unit, for which those aborts are pending. An abort that lands is the first.
+    #[tactic(auto, using(crate::proofs::Landing::named))]
     pub(crate) fn apply(
         &mut self,
         deck: &Deck,
         index: u32,
         managers: &Managers,
-        abort: Option<Abort>,
+        pending: &Pending,
         what: &What,
     )
-        requires can { CanApplyTo deck.now self.old managers.now abort what.now }
-        requires index { index < 4294967295 }
-        ensures { self.new ≡ own_entry deck.now index managers.now abort what.now self.old }
+        requires can { CanApplyTo deck.now self.old managers.now (first_abort pending.now) what.now }
+        requires index { index + 1 < words }
+        ensures { self.new ≡ own_entry deck.now index managers.now pending.now what.now self.old }
     {
         match *what {
             What::Exec { at, rc } => self.execute(deck, index, at, rc),
             What::Error { at, mark } => self.open_error(mark, here::op_at(deck, at, &Op::Return)),
-            What::Land { .. } => self.land(abort),
-            What::Enter { kind, reg, .. } => {
+            What::Land { .. } => self.land(pending.first()),
+            What::Enter {
+                kind,
+                reg,
+                bare,
+                ..
+            } => {
                 let routine = self.routine_named(kind, reg, managers);
-                self.enter(index, routine);
+                self.enter(index, bare, routine);
             }
             What::Leave {
                 kind,
@@ -209,7 +176,11 @@ impl Core {
                 ..
             } => self.leave(kind, reg, verdict),
             What::Begin { code, .. } => self.begin_to_end(code),
-            _ => {}
+            What::Arrive { .. }
+            | What::Release { .. }
+            | What::Done { .. }
+            | What::Purge { .. }
+            | What::MemEnd => {}
         }
     }
 }

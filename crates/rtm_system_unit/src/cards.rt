@@ -1,14 +1,15 @@
 //! What a card does: its row of the table of cards (this profile).
 
 ghost use Rattle.std.specs.Prelude.{◌≡◌, if◌then◌else◌};
-ghost use Rattle.rtm_model.specs.Cards.{fails, not_a_subtask, unless, rc_if, waits_for, fate_rc, frr_row, estae_row, newest_owned_here, frr_here, is_same_code, branch_row, row, outcome, is_deepest};
+ghost use Rattle.rtm_codes.specs.Code.{same_code};
+ghost use Rattle.rtm_model.specs.Cards.{fails, not_a_subtask, unless, rc_if, waits_for, fate_rc, frr_row, estae_row, newest_owned_here, frr_here, branch_row, row, outcome, is_deepest};
 ghost use Rattle.rtm_model.specs.declared.outcome.Outcome.TheVariants.{Executed, Returns};
 ghost use Rattle.rtm_model.specs.Blocks.{has_one_block};
 
 use crate::unit_core::Core;
 use rtm_codes::Code;
 use rtm_deck_items::Op;
-use rtm_model::{Fate, Outcome, Reg, Surroundings};
+use rtm_model::{DEEPEST, Fate, Outcome, Reg, Surroundings};
 use rtm_sdwa::Sdwa;
 
 const TOO_MANY_FRRS: Code = Code::Sys(0x07D);
@@ -94,7 +95,8 @@ fn fate_rc(fate: Fate) -> Outcome
 }
 
 fn detach_outcome(surroundings: &Surroundings) -> Outcome
-    ensures { result ≡ (if surroundings.now.own then Executed (fate_rc surroundings.now.fate) else fails not_a_subtask) }
+    ensures { result
+        ≡ (if surroundings.now.own then Executed (fate_rc surroundings.now.fate) else fails not_a_subtask) }
 {
     if surroundings.own {
         fate_rc(surroundings.fate)
@@ -104,7 +106,7 @@ fn detach_outcome(surroundings: &Surroundings) -> Outcome
 }
 
 fn is_same_code(one: Code, other: Code) -> bool
-    ensures { result ≡ is_same_code one other }
+    ensures { result ≡ same_code one other }
 {
     match (one, other) {
         (Code::Sys(one), Code::Sys(other)) => one == other,
@@ -124,7 +126,7 @@ fn branch(taken: bool) -> Outcome
 }
 
 fn branch_by_code(code: Code, error: Option<Sdwa>) -> Outcome
-    ensures { result ≡ branch_row (λ r. is_same_code r.code code) error }
+    ensures { result ≡ branch_row (λ r. same_code r.code code) error }
 {
     match error {
         None => branch(false),
@@ -154,7 +156,7 @@ impl Core {
     fn is_deepest(&self) -> bool
         ensures { result ≡ is_deepest self.now.levels }
     {
-        self.levels.depth() >= 15
+        self.levels.depth() as usize >= DEEPEST
     }
 
     fn frr_row(&self) -> Outcome
@@ -207,7 +209,7 @@ impl Core {
     {
         match *op {
             Op::Nop | Op::Xctl { .. } | Op::FrrPurge | Op::Memterm { .. } => execution_with(0),
-            Op::SetRp(_) | Op::Branch { .. } => execution_with(0),
+            Op::SetRp(_) | Op::Ret15 { .. } | Op::Branch { .. } => execution_with(0),
             Op::Get { .. } => unless(surroundings.crowded, TOO_MANY_HOLDINGS),
             Op::MgrAdd { .. } => unless(surroundings.crowded, TOO_MANY_MANAGERS),
             Op::Free { .. } | Op::MgrDelete { .. } => rc_if(surroundings.found, 4),

@@ -4,9 +4,9 @@ ghost use Rattle.std.specs.Prelude.{ℕ, ◌<◌, ◌≤◌, IsTrue, Option, len
 ghost use Rattle.rtm_deck_items.specs.View.{DeckView};
 ghost use Rattle.rtm_deck_items.specs.WellFormed.{is_well_formed};
 ghost use Rattle.rtm_model.specs.Aborts.{first_abort};
-ghost use Rattle.rtm_model.specs.Applies.{CanMake, IsDormant};
+ghost use Rattle.rtm_model.specs.inner.Applies.{CanMake, IsDormant};
 ghost use Rattle.rtm_model.specs.Chains.{inherited_estais};
-ghost use Rattle.rtm_model.specs.Soundness.{IsSound};
+ghost use Rattle.rtm_model.specs.inner.Soundness.{IsSound};
 ghost use Rattle.rtm_model.specs.World.{Core, UnitOfWork, World, core_at, unit_at};
 ghost use Rattle.rtm_model.specs.declared.entry.What.{What};
 ghost use Rattle.rtm_model.specs.declared.reg.Reg.{Reg};

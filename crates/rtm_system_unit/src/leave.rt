@@ -1,14 +1,15 @@
 //! A routine is left: what its verdict makes of the unit's control blocks.
 
 ghost use Rattle.std.specs.Prelude.{◌≡◌, ◌<◌, ◌&&◌, length};
-ghost use Rattle.rtm_model.specs.Births.{after_retry, estais_left, has_remrec, is_estae, is_gone_after, with_bracket_closed, with_retry, with_routine_left, without_left, without_routine};
-ghost use Rattle.rtm_model.specs.Levels.{is_frr};
+ghost use Rattle.rtm_model.specs.OwnChange.{after_retry, estais_left, has_remrec, is_estae, is_gone_after, with_bracket_closed, with_retry, with_routine_left, without_left, without_routine};
+ghost use Rattle.rtm_model.specs.Levels.{after_leave, is_frr};
 ghost use Rattle.rtm_model.specs.NextEntry.{retry_birth};
 ghost use Rattle.rtm_model.specs.Record.{is_estai};
 
 use crate::unit_core::Core;
 use rtm_chains::{EstaeChain, EstaiList, FrrStack};
 use rtm_model::{Kind, Place, Reg, Verdict};
+use rtm_percolate::Levels;
 use rtm_sdwa::Sdwa;
 
 fn is_frr(kind: Kind) -> bool
@@ -83,6 +84,17 @@ fn leave_estais(estais: &mut EstaiList, verdict: Verdict, gone: bool, kind: Kind
     }
 }
 
+// The innermost bracket is closed with that verdict on its routine.
+fn close_level(levels: &mut Levels, verdict: Verdict)
+    requires { 1 < length levels.old }
+    ensures { levels.new ≡ after_leave verdict levels.old }
+{
+    match verdict {
+        Verdict::Fail => levels.fail(),
+        other => levels.close(other),
+    }
+}
+
 impl Core {
     // The innermost bracket is closed, and what was born in it goes.
     fn close(&mut self, verdict: Verdict)
@@ -91,7 +103,7 @@ impl Core {
     {
         let depth = self.levels.depth();
         self.blocks.leave();
-        self.levels.close(verdict);
+        close_level(&mut self.levels, verdict);
         self.frrs.purge(depth);
         self.estaes.drop_depth(depth);
     }

@@ -9,10 +9,12 @@ mod leave;
 mod modes;
 mod next;
 mod own_card;
+mod send;
 #[cfg(test)]
 mod tests;
 mod unit_core;
 mod unit_of_work;
 
 pub use here::op_at;
+pub use send::types_are_send;
 pub use unit_of_work::UnitOfWork;

@@ -1,19 +1,23 @@
 //! The entry that a unit makes next.
 
-ghost use Rattle.std.specs.Prelude.{◌≡◌, ◌==◌, ◌&&◌, if◌then◌else◌, false};
+ghost use Rattle.std.specs.Prelude.{◌≡◌, None, Some, false, if◌then◌else◌};
 ghost use Rattle.std.specs.Option.{option_map};
+ghost use Rattle.rtm_model.specs.declared.entry.What.{What};
 ghost use Rattle.rtm_model.specs.Blocks.{without_bracket};
 ghost use Rattle.rtm_model.specs.Levels.{current, error_in};
-ghost use Rattle.rtm_model.specs.NextEntry.{begin_of, card_entry, card_entry_at, card_entry_by, done_of, eligible_routine, ending_or_card, ends_step, enter_of, failure_of, handling_of, interruptible, is_dumped, is_from_error, is_logged, is_outermost, is_retry, land_of, last_return, leave_by_verdict, leave_of, manager_or, master_act, next_landing, next_master, next_unit, normal_end, release_or, retry_birth, retry_prog, unit_act, with_subtasks};
+ghost use Rattle.rtm_system_unit.specs.Choosing.{entry_of};
+ghost use Rattle.rtm_model.specs.NextEntry.{begin_of, card_entry, card_entry_at, card_entry_by, done_of, eligible_routine, ending_or_card, ends_step, enter_of, failure_of, handling_of, interruptible, is_dumped, is_entered_bare, is_from_error, is_logged, is_outermost, is_retry, land_of, last_return, leave_by_verdict, leave_of, manager_or, master_act, next_landing, next_master, next_unit, normal_end, release_or, retry_birth, retry_prog, unit_act, with_subtasks};
 
 use crate::here;
 use crate::unit_core::{Beginning, Core};
 use rtm_aborts::interruptible;
 use rtm_codes::Code;
 use rtm_deck_items::{Deck, Op};
+use rtm_ending::{Act, next_act};
 use rtm_model::{
     Abort, Block, Holding, Kind, Manager1, Mark, Outcome, Place, Reg, Surroundings, Verdict, What,
 };
+use rtm_percolate::Choice;
 use rtm_sdwa::Sdwa;
 
 const NORMAL_END: Code = Code::Sys(0);
@@ -22,7 +26,8 @@ const WITH_SUBTASKS: Code = Code::Sys(0xA03);
 
 // What an entry shows of an error that no routine has seen yet.
 fn first_mark(code: Code, reason: Option<u32>, clup: bool) -> Mark
-    ensures { result ≡ record { code = code; reason = reason; clup = clup; perc = false; staf = false } }
+    ensures { result
+        ≡ record { code = code; reason = reason; clup = clup; perc = false; staf = false } }
 {
     Mark {
         code,
@@ -43,13 +48,24 @@ fn land_of(abort: Abort) -> What
     }
 }
 
-fn enter_of(error: &Sdwa, reg: Reg) -> What
-    ensures { result ≡ enter_of error.now reg }
+// Whether a routine of that kind gets no SDWA, in a deck whose ESTAE and ESTAI routines get one, or don't.
+fn is_entered_bare(sdwa: bool, kind: Kind) -> bool
+    ensures { result ≡ is_entered_bare sdwa kind }
+{
+    match kind {
+        Kind::Frr | Kind::Mgr => false,
+        Kind::Estae | Kind::Estai => !sdwa,
+    }
+}
+
+fn enter_of(sdwa: bool, error: &Sdwa, reg: Reg) -> What
+    ensures { result ≡ enter_of sdwa error.now reg }
 {
     What::Enter {
         kind: reg.kind,
         reg: reg.born,
         mark: error.mark(),
+        bare: is_entered_bare(sdwa, reg.kind),
     }
 }
 
@@ -74,14 +90,14 @@ fn begin_of(error: &Sdwa) -> What
     }
 }
 
-// What an open error leads to, in a bracket of that routine, where that one is the first that is eligible.
-fn handling_of(error: &Sdwa, eligible: Option<Reg>, own: Option<Reg>) -> What
-    ensures { result ≡ handling_of error.now eligible own }
+// What an open error leads to, as an entry.
+fn entry_of(sdwa: bool, error: &Sdwa, choice: Choice) -> What
+    ensures { result ≡ entry_of sdwa error.now choice }
 {
-    match (eligible, own) {
-        (Some(reg), _) => enter_of(error, reg),
-        (None, Some(own)) => failure_of(own),
-        (None, None) => begin_of(error),
+    match choice {
+        Choice::Enter(reg) => enter_of(sdwa, error, reg),
+        Choice::FailRoutine(own) => failure_of(own),
+        Choice::Begin(error) => begin_of(&error),
     }
 }
 
@@ -129,31 +145,25 @@ fn end_code(subtask: bool) -> Code
     if subtask { WITH_SUBTASKS } else { NORMAL_END }
 }
 
-// The next manager gets control, or else the rest comes.
-fn manager_or(code: Code, manager: Option<Manager1>, rest: What) -> What
-    ensures { result ≡ manager_or code manager rest }
+// A manager gets control, at an end of that code.
+fn enter_of_manager(code: Code, manager: Manager1) -> What
+    ensures { (rest : What) → result ≡ manager_or code (Some manager) rest }
 {
-    match manager {
-        None => rest,
-        Some(manager) => What::Enter {
-            kind: Kind::Mgr,
-            reg: manager.born,
-            mark: first_mark(code, None, false),
-        },
+    What::Enter {
+        kind: Kind::Mgr,
+        reg: manager.born,
+        mark: first_mark(code, None, false),
+        bare: false,
     }
 }
 
-// The next holding is released, or else the rest comes.
-fn release_or(holding: Option<Holding>, rest: What) -> What
-    ensures { result ≡ release_or holding rest }
+fn release_of(holding: Holding) -> What
+    ensures { (rest : What) → result ≡ release_or (Some holding) rest }
 {
-    match holding {
-        None => rest,
-        Some(holding) => What::Release {
-            class: holding.class,
-            id: holding.id,
-            owner: holding.owner,
-        },
+    What::Release {
+        class: holding.class,
+        id: holding.id,
+        owner: holding.owner,
     }
 }
 
@@ -198,11 +208,27 @@ impl Beginning {
     fn unit_act(&self, surroundings: &Surroundings) -> Option<What>
         ensures { result ≡ unit_act self.now surroundings.now }
     {
-        if surroundings.subtask {
-            return None;
+        match next_act(
+            surroundings.subtask,
+            surroundings.manager,
+            surroundings.holding,
+        ) {
+            Act::Wait => None,
+            Act::Run(manager) => Some(enter_of_manager(self.code, manager)),
+            Act::Give(holding) => Some(release_of(holding)),
+            Act::Finish => Some(self.done_of(surroundings)),
         }
-        let rest = release_or(surroundings.holding, self.done_of(surroundings));
-        Some(manager_or(self.code, surroundings.manager, rest))
+    }
+}
+
+// The master's next act once no unit lives.
+fn space_act(code: Code, surroundings: &Surroundings) -> What
+    ensures { result ≡ master_act code None surroundings.now }
+{
+    match next_act(false, surroundings.manager, surroundings.holding) {
+        Act::Run(manager) => enter_of_manager(code, manager),
+        Act::Give(holding) => release_of(holding),
+        Act::Wait | Act::Finish => What::MemEnd,
     }
 }
 
@@ -212,24 +238,11 @@ fn master_act(code: Code, living: Option<u16>, surroundings: &Surroundings) -> W
 {
     match living {
         Some(unit) => What::Purge { unit },
-        None => manager_or(
-            code,
-            surroundings.manager,
-            release_or(surroundings.holding, What::MemEnd),
-        ),
+        None => space_act(code, surroundings),
     }
 }
 
 impl Core {
-    // The first routine that is eligible for the error of the innermost bracket.
-    fn eligible_routine(&self, error: &Sdwa) -> Option<Reg>
-        ensures { result ≡ eligible_routine self.now error.now }
-    {
-        let term_only = error.flags.ten().term_only;
-        self.levels
-            .first_eligible(term_only, &self.frrs, &self.estaes, &self.estais)
-    }
-
     fn is_interruptible(&self) -> bool
         ensures { result ≡ interruptible self.now }
     {
@@ -360,17 +373,16 @@ impl Core {
 
     // What the error leads to that is open in the innermost bracket, if one is.
     #[inline(never)]
-    fn error_handling(&self) -> Option<What>
-        ensures { result ≡ option_map (λ r. handling_of r (eligible_routine self.now r) (current self.now.levels)) (error_in self.now.levels) }
+    #[tactic(auto, using(crate::proofs::Choosing::handled))]
+    fn error_handling(&self, sdwa: bool) -> Option<What>
+        ensures { result
+            ≡ option_map
+            (λ r. handling_of sdwa r (eligible_routine self.now r) (current self.now.levels))
+            (error_in self.now.levels) }
     {
-        match self.levels.error() {
-            Some(error) => Some(handling_of(
-                &error,
-                self.eligible_routine(&error),
-                self.levels.current(),
-            )),
-            None => None,
-        }
+        let error = self.levels.error()?;
+        let choice = self.levels.choose(&self.frrs, &self.estaes, &self.estais);
+        Some(entry_of(sdwa, &error, choice))
     }
 
     /// The entry that the unit makes next, while it lives.
@@ -379,7 +391,7 @@ impl Core {
         ensures { result ≡ next_unit deck.now self.now surroundings.now }
     {
         if self.levels.error_here() {
-            return self.error_handling();
+            return self.error_handling(deck.sdwa);
         }
         match self.next_landing(surroundings) {
             Some(abort) => Some(land_of(abort)),
@@ -398,7 +410,7 @@ impl Core {
         ensures { result ≡ next_master deck.now self.now surroundings.now code living }
     {
         if self.levels.error_here() {
-            return self.error_handling();
+            return self.error_handling(deck.sdwa);
         }
         if self.is_outermost() {
             Some(master_act(code, living, surroundings))

@@ -1,19 +1,14 @@
 //! One unit: what its cards do, and what entries change of it.
 
+ghost use Rattle.rtm_codes.specs.Code.{IsInRange};
+
 use crate::UnitOfWork;
 use crate::unit_core::Core;
 use rtm_chains::EstaiList;
 use rtm_codes::Code;
-use rtm_deck_items::{Op, Res};
+use rtm_deck_items::{Name, Op, Res, Setrp};
 use rtm_model::{Abort, Class, Fate, Kind, Mark, Outcome, Place, Reg, Surroundings, Verdict};
 use std::test::Fail;
-
-fn is_send<T: Send>() {}
-
-#[test]
-fn units_may_move_to_another_thread() {
-    is_send::<UnitOfWork>();
-}
 
 // What others are to the unit when its card comes.
 #[derive(Clone, Copy)]
@@ -42,6 +37,30 @@ fn surroundings(near: Near) -> Surroundings {
         fate: Fate::Late,
         to_task: None,
         to_step: None,
+    }
+}
+
+const NO_OPTIONS: Setrp = Setrp {
+    rc: None,
+    retaddr: None,
+    remrec: None,
+    compcod: None,
+    reason: None,
+    dump: None,
+    logrec: None,
+    fresdwa: None,
+};
+
+fn first_mark(code: Code) -> Mark
+    requires { IsInRange code }
+    ensures { IsInRange result.code }
+{
+    Mark {
+        code,
+        reason: None,
+        clup: false,
+        perc: false,
+        staf: false,
     }
 }
 
@@ -135,6 +154,49 @@ fn cards_have_their_rows(rt: HostRuntime) -> Result<(), Fail> {
     Ok(())
 }
 
+// A card that reads a record, and those that change it, in a recovery routine, with an SDWA and bare, and outside of one.
+#[test]
+fn bare_routines_have_no_sdwa(rt: HostRuntime) -> Result<(), Fail> {
+    let label = Name(*b"AGAIN   ");
+    let ret15 = Op::Ret15 {
+        rc: 4,
+        label: Some(label),
+    };
+    let code = Code::User(7);
+    // In the routine of an ESTAEX, with an SDWA and without one; outside of a routine each is an EE6.
+    let rows = [
+        (Op::SetRp(NO_OPTIONS), execution_with(0), error(0xEE7)),
+        (ret15, execution_with(0), execution_with(0)),
+        (
+            Op::IfCode { code, label },
+            execution_with(4),
+            execution_with(4),
+        ),
+        (Op::IfClup { label }, execution_with(0), error(0xEE7)),
+        (Op::IfPerc { label }, execution_with(0), error(0xEE7)),
+    ];
+    for (op, given, bare) in rows {
+        let mut core = Core::with_room(rt.alloc())?;
+        core.blocks.begin(0, 3);
+        assert_eq!(rt; core.outcome(&surroundings(Near::Alone), &op), error(0xEE6));
+        core.open_error(first_mark(code), &Op::Nop);
+        core.enter(2, false, Some(estai(1)));
+        assert_eq!(rt;
+            core.outcome(&surroundings(Near::Alone), &op),
+            given,
+            "at {op:?}"
+        );
+        core.leave(Kind::Estai, 1, Verdict::Perc);
+        core.enter(4, true, Some(estai(1)));
+        assert_eq!(rt;
+            core.outcome(&surroundings(Near::Alone), &op),
+            bare,
+            "at {op:?}"
+        );
+    }
+    Ok(())
+}
+
 #[test]
 fn a_unit_is_posted_to_and_purged(rt: HostRuntime) -> Result<(), Fail> {
     let mut unit = UnitOfWork::with_room(rt.alloc())?;
@@ -150,7 +212,7 @@ fn a_unit_is_posted_to_and_purged(rt: HostRuntime) -> Result<(), Fail> {
     unit.purge();
     assert_eq!(rt; unit.first_abort(), None);
     assert_eq!(rt; unit.arrival_count(), 2);
-    assert!(rt; !unit.has_begun() && !unit.has_error());
+    assert!(rt; !unit.has_begun());
     Ok(())
 }
 
@@ -174,17 +236,10 @@ fn an_frr_retries(rt: HostRuntime) -> Result<(), Fail> {
     core.blocks.begin(0, 3);
     let add = Op::FrrAdd { prog: 4 };
     core.own_card(0, Place { prog: 3, op: 2 }, &add);
-    let mark = Mark {
-        code: Code::User(7),
-        reason: None,
-        clup: false,
-        perc: false,
-        staf: false,
-    };
-    core.open_error(mark, &Op::Nop);
+    core.open_error(first_mark(Code::User(7)), &Op::Nop);
     let frr = core.frrs.routine_born_at(0);
     assert_eq!(rt; frr.map(|reg| reg.prog), Some(4));
-    core.enter(2, frr);
+    core.enter(2, false, frr);
     assert_eq!(rt; core.levels.depth(), 1);
     assert_eq!(rt; core.blocks.place(), Place { prog: 4, op: 1 });
     core.leave(Kind::Frr, 0, Verdict::Retry(Place { prog: 3, op: 5 }));

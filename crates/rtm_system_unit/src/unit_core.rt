@@ -4,7 +4,8 @@ ghost use Rattle.std.specs.Prelude.{◌≡◌, ◌<◌, [], IfOk};
 ghost use Rattle.rtm_model.specs.World.{UnitOfWork, unborn_unit};
 ghost use Rattle.rtm_deck_items.specs.declared.op.Op.TheVariants.{Return};
 ghost use Rattle.rtm_model.specs.Surroundings.{op_here};
-ghost use Rattle.rtm_model.specs.Births.{purged_core, after_begin};
+ghost use Rattle.rtm_model.specs.OwnChange.{after_begin};
+ghost use Rattle.rtm_model.specs.Advance.{purged_core};
 
 use crate::here;
 use rtm_blocks::Blocks;
@@ -82,16 +83,8 @@ impl Core {
         })
     }
 
-    /// The operation at which the unit stands; where it has no request block the first card of the first
-    /// program, which no entry asks for.
-    pub(crate) fn op_here(&self, deck: &Deck) -> Op
-        ensures { result ≡ op_here deck.now self.now }
-    {
-        let place = self.blocks.place();
-        deck.op_at(place.prog, place.op)
-    }
-
-    /// The same, in the deck itself; behind the last card `at_end`, the RETURN that the caller brings along.
+    /// The operation at which the unit stands, in the deck itself; behind the last card `at_end`, the RETURN that the caller
+    /// brings along. Where the unit has no request block it is the first card of the first program, which no entry asks for.
     pub(crate) fn card_here<'d>(&self, deck: &'d Deck, at_end: &'d Op) -> &'d Op
         requires { at_end.now ≡ Return }
         ensures { result.now ≡ op_here deck.now self.now }

@@ -3,9 +3,12 @@
 ghost use Rattle.std.specs.Prelude.{◌≡◌, ◌+◌, ◌<◌, ◌≤◌, [], IfOk, is_some, length};
 ghost use Rattle.std.specs.Option.{option_map};
 ghost use Rattle.rtm_model.specs.Aborts.{fate_of, first_abort};
-ghost use Rattle.rtm_model.specs.Births.{cause_of, own_change, own_pending, purged_core, with_posted};
+ghost use Rattle.rtm_model.specs.Posts.{with_posted};
+ghost use Rattle.rtm_model.specs.OwnChange.{own_change, own_pending};
+ghost use Rattle.rtm_model.specs.Advance.{cause_of, purged_core};
 ghost use Rattle.rtm_model.specs.Chains.{inherited_estais};
-ghost use Rattle.rtm_model.specs.Levels.{depth_in, error_here};
+ghost use Rattle.rtm_model.specs.Levels.{depth_in};
+ghost use Rattle.rtm_model.specs.Limits.{words};
 ghost use Rattle.rtm_model.specs.NextEntry.{next_master, next_unit};
 ghost use Rattle.rtm_deck_items.specs.declared.op.Op.TheVariants.{Return};
 ghost use Rattle.rtm_model.specs.Surroundings.{op_here};
@@ -13,7 +16,7 @@ ghost use Rattle.rtm_model.specs.World.{at_birth, unborn_unit};
 ghost use Rattle.rtm_model.specs.Blocks.{newest_block};
 ghost use Rattle.rtm_model.specs.declared.block.Block.{Block};
 ghost use Rattle.rtm_model.specs.declared.entry.What.TheVariants.{Exec};
-ghost use Rattle.rtm_system_unit.specs.Applying.{CanApplyTo};
+ghost use Rattle.rtm_system_unit.specs.Applying.{CanApplyTo, LandsFirst};
 ghost use Rattle.rtm_system_unit.specs.Normal.{runs_normally, may_wait};
 
 use crate::unit_core::Core;
@@ -48,6 +51,7 @@ impl Model for UnitOfWork {
 
 // What an entry of the unit changes of its pending aborts: the first lands, or all go where the unit begins to end.
 fn own_pending(pending: &mut Pending, what: &What)
+    requires { LandsFirst (first_abort pending.old) what.now }
     ensures { pending.new ≡ own_pending what.now pending.old }
 {
     match what {
@@ -55,7 +59,15 @@ fn own_pending(pending: &mut Pending, what: &What)
             let _landed = pending.land();
         }
         What::Begin { .. } => pending.drop_all(),
-        _ => {}
+        What::Exec { .. }
+        | What::Error { .. }
+        | What::Enter { .. }
+        | What::Leave { .. }
+        | What::Arrive { .. }
+        | What::Release { .. }
+        | What::Done { .. }
+        | What::Purge { .. }
+        | What::MemEnd => {}
     }
 }
 
@@ -72,15 +84,8 @@ impl UnitOfWork {
         })
     }
 
-    /// The operation at which the unit stands; where it has no request block the first card of the first
-    /// program, which no entry asks for.
-    pub fn op_here(&self, deck: &Deck) -> Op
-        ensures { result ≡ op_here deck.now self.now.core }
-    {
-        self.core.op_here(deck)
-    }
-
-    /// The same, in the deck itself; behind the last card `at_end`, the RETURN that the caller brings along.
+    /// The operation at which the unit stands, in the deck itself; behind the last card `at_end`, the RETURN that the caller
+    /// brings along. Where the unit has no request block it is the first card of the first program, which no entry asks for.
     pub fn card_here<'d>(&self, deck: &'d Deck, at_end: &'d Op) -> &'d Op
         requires { at_end.now ≡ Return }
         ensures { result.now ≡ op_here deck.now self.now.core }
@@ -110,7 +115,8 @@ impl UnitOfWork {
     /// The execution, with 0, of the card at which the unit stands; none where it has no request block.
     #[inline(always)]
     pub fn execution(&self) -> Option<What>
-        ensures { result ≡ option_map (λ block. Exec (Block.place block) 0) (newest_block self.now.core.blocks) }
+        ensures { result
+            ≡ option_map (λ block. Exec (Block.place block) 0) (newest_block self.now.core.blocks) }
     {
         match self.core.blocks.newest_block() {
             Some(block) => Some(What::Exec {
@@ -143,14 +149,15 @@ impl UnitOfWork {
             .next_at_memory_end(deck, surroundings, code, living)
     }
 
-    /// The entry of that index, which is the unit's own, changes it.
+    /// The entry of that index, which is the unit's own, changes it. An abort that lands is the first that is pending.
+    #[tactic(auto, using(crate::proofs::Landing::lands))]
     pub fn apply(&mut self, deck: &Deck, index: u32, managers: &Managers, what: &What)
-        requires can { CanApplyTo deck.now self.old.core managers.now (first_abort self.old.pending) what.now }
-        requires index { index < 4294967295 }
+        requires can { CanApplyTo deck.now self.old.core managers.now
+            (first_abort self.old.pending) what.now }
+        requires index { index + 1 < words }
         ensures { self.new ≡ own_change deck.now index managers.now what.now self.old }
     {
-        let abort = self.pending.first();
-        self.core.apply(deck, index, managers, abort, what);
+        self.core.apply(deck, index, managers, &self.pending, what);
         own_pending(&mut self.pending, what);
     }
 
@@ -226,16 +233,6 @@ impl UnitOfWork {
         self.core.begun.is_some()
     }
 
-    /// The code with which it has begun to end.
-    pub fn end_code(&self) -> Option<Code>
-        ensures { result ≡ option_map (λ begun. begun.code) self.now.core.begun }
-    {
-        match self.core.begun {
-            Some(begun) => Some(begun.code),
-            None => None,
-        }
-    }
-
     /// The record of the error by which it has begun to end, if by one.
     pub fn cause(&self) -> Option<Sdwa>
         ensures { result ≡ cause_of self.now.core.begun }
@@ -244,13 +241,6 @@ impl UnitOfWork {
             Some(begun) => begun.cause,
             None => None,
         }
-    }
-
-    /// Whether an error is open in the innermost bracket.
-    pub fn has_error(&self) -> bool
-        ensures { result ≡ error_here self.now.core.levels }
-    {
-        self.core.levels.error_here()
     }
 
     /// How many brackets enclose the innermost one.

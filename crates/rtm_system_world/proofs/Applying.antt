@@ -18,12 +18,12 @@ use Rattle.rtm_model.specs.declared.entry.Fate.{Fate}
 use Rattle.rtm_model.specs.declared.entry.What.{What}
 use Rattle.rtm_model.specs.declared.entry.What.TheVariants as whats
 use Rattle.rtm_model.specs.Aborts.{first_abort}
-use Rattle.rtm_model.specs.Applies.{CanApply, CanMake, StandsAt}
+use Rattle.rtm_model.specs.inner.Applies.{CanApply, CanMake, StandsAt}
 use Rattle.rtm_model.specs.Arrivals.{arrival, arrival_fate, arrival_of, earlier_count, goes_on, is_cancellable, is_due, is_in_turn}
-use Rattle.rtm_model.specs.Births.{own_change, place_after}
+use Rattle.rtm_model.specs.OwnChange.{own_change, place_after}
 use Rattle.rtm_model.specs.Legal.{MayFollow}
 use Rattle.rtm_model.specs.Surroundings.{fate_in}
-use Rattle.rtm_model.specs.Soundness.{IsSound}
+use Rattle.rtm_model.specs.inner.Soundness.{IsSound}
 use Rattle.rtm_model.specs.World.{UnitOfWork, World, core_at, related_task, unborn_unit, unit_at}
 use Rattle.rtm_model.specs.declared.entry.Class.TheVariants.{Cancel}
 use Rattle.rtm_model.proofs.Lists.{at_from_list_all, below_length, both_true, length-filter-le}

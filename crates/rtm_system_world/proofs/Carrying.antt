@@ -11,12 +11,12 @@ use Rattle.rtm_deck_items.specs.Reading.{is_task_card}
 use Rattle.rtm_deck_items.specs.WellFormed.{is_abend_code, is_op, is_program_or_none, is_reason, is_task_in, is_well_formed}
 use Rattle.rtm_model.specs.declared.holding.Holding.{Holding}
 use Rattle.rtm_model.specs.declared.reg.Reg.{Reg}
-use Rattle.rtm_model.specs.Applies.{CanExecute, IsDormant}
+use Rattle.rtm_model.specs.inner.Applies.{CanExecute, IsDormant}
 use Rattle.rtm_model.specs.Births.{new_estai}
 use Rattle.rtm_model.specs.Blocks.{newest_bracket}
 use Rattle.rtm_model.specs.Chains.{inherited_estais}
 use Rattle.rtm_model.specs.Ending.{AreBornBefore, AreHeldBefore, Holdings, IsHeldBefore, no_holdings}
-use Rattle.rtm_model.specs.Soundness.{AreHeld, AreHoldings, HoldingsFall, IsSound}
+use Rattle.rtm_model.specs.inner.Soundness.{AreHeld, AreHoldings, HoldingsFall, IsSound}
 use Rattle.rtm_model.specs.World.{Core, UnitOfWork, World, core_at, on_unit, unborn_unit, unit_at}
 use Rattle.rtm_model.proofs.Lists.{below_length, both_true}
 use Rattle.rtm_law_sound_region.proofs.Beyond.{AddsToTask}

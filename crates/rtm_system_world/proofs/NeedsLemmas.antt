@@ -80,6 +80,7 @@ row_returns c a (ops.Wait event) e = clash _ (none_by_wait a.found) e
 row_returns c a (ops.WaitTask unit) e = clash _ (none_by_wait a.found) e
 row_returns c a (ops.Post event) e = e
 row_returns c a (ops.SetRp setrp) e = e
+row_returns c a (ops.Ret15 rc label) e = e
 row_returns c a (ops.Branch label) e = e
 row_returns c a (ops.IfCode code label) e = e
 row_returns c a (ops.IfClup label) e = e
@@ -116,6 +117,7 @@ same_outcome d w u c (ops.Wait event) = refl
 same_outcome d w u c (ops.WaitTask unit) = refl
 same_outcome d w u c (ops.Post event) = refl
 same_outcome d w u c (ops.SetRp setrp) = refl
+same_outcome d w u c (ops.Ret15 rc label) = refl
 same_outcome d w u c (ops.Branch label) = refl
 same_outcome d w u c (ops.IfCode code label) = refl
 same_outcome d w u c (ops.IfClup label) = refl
@@ -206,8 +208,8 @@ same_at_end d w u c op e =
     let rest = is_interruptible (has_frr c.frrs) (shielded c.levels) c.doomed (error_here c.levels) in
     let lands : next_landing c (needs_of_end d w u) ≡ next_landing c (surroundings_at d w u op) =
     none_lands c.begun rest (Surroundings.abort (needs_of_end d w u)) begun ∙ sym (none_lands c.begun rest (Surroundings.abort (surroundings_at d w u op)) begun) in
-    ap (λ (abort : Option Abort). first_case c (error_in c.levels) abort (ending_or_card d c (needs_of_end d w u) c.begun)) lands
-    ∙ ap (first_case c (error_in c.levels) (next_landing c (surroundings_at d w u op))) (ending_goes_on d w u c op c.begun e)
+    ap (λ (abort : Option Abort). first_case d.sdwa c (error_in c.levels) abort (ending_or_card d c (needs_of_end d w u) c.begun)) lands
+    ∙ ap (first_case d.sdwa c (error_in c.levels) (next_landing c (surroundings_at d w u op))) (ending_goes_on d w u c op c.begun e)
 
 -- the next entry of a unit that lives
 pub same_at_its_end : (d : DeckView) (w : World) (u : ℕ) → is_ending (core_at u w) ≡ true → next_unit d (core_at u w) (needs_of_end d w u) ≡ next_unit d (core_at u w) (surroundings d w u)
@@ -217,7 +219,7 @@ pub same_at_its_card : (d : DeckView) (w : World) (u : ℕ) → is_ending (core_
     → next_unit d (core_at u w) (needs_of_card d w u (op_here d (core_at u w))) ≡ next_unit d (core_at u w) (surroundings d w u)
 same_at_its_card d w u e =
     let c = core_at u w in
-    ap (first_case c (error_in c.levels) (next_landing c (surroundings_at d w u (op_here d c)))) (card_goes_on d w u c c.begun e)
+    ap (first_case d.sdwa c (error_in c.levels) (next_landing c (surroundings_at d w u (op_here d c)))) (card_goes_on d w u c c.begun e)
 
 -- ---- memory end
 abbrev master_does : Code → Option ℕ → Option Manager1 → Option Holding → What
@@ -246,12 +248,12 @@ all_of_it d w u op code living e =
 master_by : (d : DeckView) (w : World) (u : ℕ) (c : Core) (code : Code) (living : Option ℕ) (t : Bool) → whose d u ≡ None → is_outermost c.levels ≡ t
     → next_master d c (if t then needs_of_memory_end w else needs_of_card d w u (op_here d c)) code living ≡ next_master d c (surroundings_at d w u (op_here d c)) code living
 master_by d w u c code living true whole e =
-    ap (first_case c (error_in c.levels) None)
+    ap (first_case d.sdwa c (error_in c.levels) None)
     (then_is (is_outermost c.levels) (Some (master_act code living (needs_of_memory_end w))) (card_entry d c (needs_of_memory_end w)) e
     ∙ ap (λ (x : What). Some x) (all_of_it d w u (op_here d c) code living whole)
     ∙ sym (then_is (is_outermost c.levels) (Some (master_act code living (surroundings_at d w u (op_here d c)))) (card_entry d c (surroundings_at d w u (op_here d c))) e))
 master_by d w u c code living false whole e =
-    ap (first_case c (error_in c.levels) None)
+    ap (first_case d.sdwa c (error_in c.levels) None)
     (else_is (is_outermost c.levels) (Some (master_act code living (needs_of_card d w u (op_here d c)))) (card_entry d c (needs_of_card d w u (op_here d c))) e
     ∙ same_carded d w u c
     ∙ sym (else_is (is_outermost c.levels) (Some (master_act code living (surroundings_at d w u (op_here d c)))) (card_entry d c (surroundings_at d w u (op_here d c))) e))

@@ -17,8 +17,8 @@ use Rattle.rtm_model.specs.declared.entry.What.TheVariants.{Exec}
 use Rattle.rtm_model.specs.declared.error_record.ErrorRecord.{ErrorRecord}
 use Rattle.rtm_model.specs.Aborts.{first_abort}
 use Rattle.rtm_model.specs.Blocks.{newest_block, place_or_none}
-use Rattle.rtm_model.specs.Cards.{has_frr, in_manager, out_of_routine, outcome, outcome_by, waits_for, wrong_mode}
-use Rattle.rtm_model.specs.Levels.{error_here, error_in, recovers}
+use Rattle.rtm_model.specs.Cards.{has_frr, in_manager, out_of_routine, outcome, outcome_by, waits_for, without_sdwa, wrong_mode}
+use Rattle.rtm_model.specs.Levels.{error_here, error_in, is_bare, recovers}
 use Rattle.rtm_model.specs.NextEntry.{card_entry, card_entry_at, card_entry_by, ending_or_card, first_case, interruptible, next_landing, next_unit}
 use Rattle.rtm_model.specs.Surroundings.{is_found, op_here, surroundings}
 use Rattle.rtm_model.specs.Tasks.{Tree, has_ended, is_posted, life_of}
@@ -50,8 +50,8 @@ either_way false abort e = refl
 -- it goes on with its card
 normal_by : (d : DeckView) (c : Core) (a : Surroundings) → error_here c.levels ≡ false → is_none c.begun ≡ true → is_none a.abort ≡ true → next_unit d c a ≡ card_entry d c a
 normal_by d c a no_error not_begun no_abort =
-    ap (λ (r : Option ErrorRecord). first_case c r (next_landing c a) (ending_or_card d c a c.begun)) (absent (error_in c.levels) no_error)
-    ∙ ap (λ (abort : Option Abort). first_case c None abort (ending_or_card d c a c.begun)) (either_way (interruptible c) a.abort (none_there a.abort no_abort))
+    ap (λ (r : Option ErrorRecord). first_case d.sdwa c r (next_landing c a) (ending_or_card d c a c.begun)) (absent (error_in c.levels) no_error)
+    ∙ ap (λ (abort : Option Abort). first_case d.sdwa c None abort (ending_or_card d c a c.begun)) (either_way (interruptible c) a.abort (none_there a.abort no_abort))
     ∙ ap (ending_or_card d c a) (none_there c.begun not_begun)
 
 normal_next : (d : DeckView) (w : World) (u : ℕ) → runs_normally (unit_at u w.units) ≡ true → next_unit d (core_at u w) (surroundings d w u) ≡ card_entry d (core_at u w) (surroundings d w u)
@@ -85,19 +85,19 @@ pub executes_branch : (d : DeckView) (w : World) (u : ℕ) (label : Name) → ru
 executes_branch d w u label normal e = normal_next d w u normal ∙ branch_at d (core_at u w) (surroundings d w u) (newest_block (Core.blocks (core_at u w))) label e
 
 -- ---- WAIT and WAITT
-no_mode : (srb frr manager routine : Bool) → srb ≡ false → frr ≡ false → manager ≡ false
-    → (if true && (srb || frr) then Some wrong_mode else if true && manager then Some wrong_mode else if false && routine then Some out_of_routine else None) ≡ None
-no_mode false false false routine e f g = refl
-no_mode true frr manager routine e f g = absurd cc
-no_mode false true manager routine e f g = absurd cc
-no_mode false false true routine e f g = absurd cc
+no_mode : (srb frr manager routine bare : Bool) → srb ≡ false → frr ≡ false → manager ≡ false
+    → (if true && (srb || frr) then Some wrong_mode else if true && manager then Some wrong_mode else if false && routine then Some out_of_routine else if false && bare then Some without_sdwa else None) ≡ None
+no_mode false false false routine bare e f g = refl
+no_mode true frr manager routine bare e f g = absurd cc
+no_mode false true manager routine bare e f g = absurd cc
+no_mode false false true routine bare e f g = absurd cc
 
 wait_at : (d : DeckView) (c : Core) (a : Surroundings) (b : Option Block) (event : ℕ) → op_of d b ≡ ops.Wait event
     → a.srb ≡ false → has_frr c.frrs ≡ false → in_manager c.levels ≡ false → a.found ≡ false → card_entry_at d c a b ≡ None
 wait_at d c a None event e srb frr manager found = refl
 wait_at d c a (Some block) event e srb frr manager found =
     ap (λ (op : Op). card_entry_by d c a block.place (outcome c a op)) e
-    ∙ ap (λ (mode : Option Code). card_entry_by d c a block.place (outcome_by mode (waits_for a.found))) (no_mode a.srb (has_frr c.frrs) (in_manager c.levels) (not (recovers c.levels)) srb frr manager)
+    ∙ ap (λ (mode : Option Code). card_entry_by d c a block.place (outcome_by mode (waits_for a.found))) (no_mode a.srb (has_frr c.frrs) (in_manager c.levels) (not (recovers c.levels)) (is_bare c.levels) srb frr manager)
     ∙ ap (λ (there : Bool). card_entry_by d c a block.place (waits_for there)) found
 
 task_at : (d : DeckView) (c : Core) (a : Surroundings) (b : Option Block) (task : ℕ) → op_of d b ≡ ops.WaitTask task
@@ -105,7 +105,7 @@ task_at : (d : DeckView) (c : Core) (a : Surroundings) (b : Option Block) (task 
 task_at d c a None task e srb frr manager found = refl
 task_at d c a (Some block) task e srb frr manager found =
     ap (λ (op : Op). card_entry_by d c a block.place (outcome c a op)) e
-    ∙ ap (λ (mode : Option Code). card_entry_by d c a block.place (outcome_by mode (waits_for a.found))) (no_mode a.srb (has_frr c.frrs) (in_manager c.levels) (not (recovers c.levels)) srb frr manager)
+    ∙ ap (λ (mode : Option Code). card_entry_by d c a block.place (outcome_by mode (waits_for a.found))) (no_mode a.srb (has_frr c.frrs) (in_manager c.levels) (not (recovers c.levels)) (is_bare c.levels) srb frr manager)
     ∙ ap (λ (there : Bool). card_entry_by d c a block.place (waits_for there)) found
 
 pub waits_for_event : (d : DeckView) (w : World) (u event : ℕ) → runs_normally (unit_at u w.units) ≡ true → op_here d (core_at u w) ≡ ops.Wait event

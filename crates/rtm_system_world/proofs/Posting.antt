@@ -2,7 +2,7 @@
 use Rattle.std.proofs.Common.{◌≡◌, ℕ, zero, suc, ◌+◌, ◌<◌, ◌≤◌, List, [], ◌∷◌, length, set, take, refl, sym, ap, subst, ◌∙◌, arith, get_or}
 use Rattle.std.proofs.lemmas.List.{take_all}
 use Rattle.rtm_model.specs.declared.abort.Abort.{Abort}
-use Rattle.rtm_model.specs.Births.{post_to_subtasks}
+use Rattle.rtm_model.specs.Posts.{post_to_subtasks}
 use Rattle.rtm_model.specs.Tasks.{Life}
 use Rattle.rtm_model.specs.World.{UnitOfWork, unborn_unit}
 use Rattle.rtm_system_world.specs.Posting.{post_below, post_if_subtask}

@@ -2,7 +2,7 @@
 use Rattle.std.specs.Prelude.{Bool, None, Option, Some, false, if◌then◌else◌, is_some, not, true, ℕ, ◌&&◌}
 use Rattle.rtm_deck_items.specs.View.{DeckView}
 use Rattle.rtm_deck_items.specs.declared.op.Op.{Op}
-use Rattle.rtm_deck_items.specs.declared.op.Op.TheVariants.{Return}
+use Rattle.rtm_deck_items.specs.declared.op.Op.TheVariants.{Abend, Abterm, Attachx, Branch, Detach, EstaexCt, EstaexOv, EstaexZero, Free, FrrAdd, FrrDelete, FrrPurge, FrrReplace, Get, IfClup, IfCode, IfPerc, Link, Memterm, MgrAdd, MgrDelete, Nop, Post, Ret15, Return, Schedule, SetRp, Wait, WaitTask, Xctl}
 use Rattle.rtm_model.specs.declared.surroundings.Surroundings.{Surroundings}
 use Rattle.rtm_model.specs.declared.entry.Fate.{Fate}
 use Rattle.rtm_model.specs.declared.entry.Fate.TheVariants.{Late}
@@ -35,7 +35,35 @@ no_needs = record {
 
 abbrev pub is_return : Op → Bool
 is_return Return = true
-is_return _ = false
+is_return Nop = false
+is_return (Get class id) = false
+is_return (Free class id) = false
+is_return (Link prog) = false
+is_return (Xctl prog) = false
+is_return (Abend code reason dump step) = false
+is_return (EstaexCt prog term cancel xctl) = false
+is_return (EstaexOv prog term cancel xctl) = false
+is_return EstaexZero = false
+is_return (FrrAdd prog) = false
+is_return FrrDelete = false
+is_return (FrrReplace prog) = false
+is_return FrrPurge = false
+is_return (Attachx unit estai term) = false
+is_return (Detach unit stae) = false
+is_return (Abterm unit code reason dump retry) = false
+is_return (Memterm code) = false
+is_return (MgrAdd prog space) = false
+is_return (MgrDelete prog space) = false
+is_return (Schedule unit) = false
+is_return (Wait event) = false
+is_return (WaitTask unit) = false
+is_return (Post event) = false
+is_return (SetRp setrp) = false
+is_return (Ret15 rc label) = false
+is_return (Branch label) = false
+is_return (IfCode code label) = false
+is_return (IfClup label) = false
+is_return (IfPerc label) = false
 
 -- what a unit asks that stands at that card: no manager, no holding, and no fate but the card's own
 abbrev pub needs_of_card : DeckView → World → ℕ → Op → Surroundings

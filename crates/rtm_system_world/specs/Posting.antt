@@ -1,7 +1,7 @@
 -- An abort that is posted to the subtasks of a task, unit by unit.
 use Rattle.std.specs.Prelude.{List, if◌then◌else◌, is_some, take, ℕ}
 use Rattle.rtm_model.specs.declared.abort.Abort.{Abort}
-use Rattle.rtm_model.specs.Births.{post_to_subtasks, with_posted}
+use Rattle.rtm_model.specs.Posts.{post_to_subtasks, with_posted}
 use Rattle.rtm_model.specs.Tasks.{Life, is_subtask_of}
 use Rattle.rtm_model.specs.World.{Core, UnitOfWork}
 

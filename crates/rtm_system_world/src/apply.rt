@@ -3,9 +3,12 @@
 ghost use Rattle.std.specs.Prelude.{◌≡◌, ◌<◌, ◌≤◌, ◌+◌, ◌==◌, ◌&&◌, not, length, None, Some, Option, slice_get, if◌then◌else◌};
 ghost use Rattle.std.specs.Option.{option_map_or};
 ghost use Rattle.rtm_deck_items.specs.Reading.{job_step};
-ghost use Rattle.rtm_model.specs.Births.{advance, after_arrival, beyond, after_done, managers_left, memory_end_after, own_change, post_related, post_step, post_to_subtasks, after_purge, without_living, mother_abort};
+ghost use Rattle.rtm_model.specs.Posts.{post_related, post_step, post_to_subtasks, mother_abort};
+ghost use Rattle.rtm_model.specs.OwnChange.{own_change};
+ghost use Rattle.rtm_model.specs.Advance.{advance, after_arrival, beyond, after_done, managers_left, memory_end_after, after_purge, without_living};
 ghost use Rattle.rtm_model.specs.World.{Core, UnitOfWork, core_at, on_unit, related_task, unit_at};
 ghost use Rattle.rtm_model.specs.Aborts.{first_abort};
+ghost use Rattle.rtm_model.specs.Limits.{words};
 ghost use Rattle.rtm_model.specs.Tasks.{Tree};
 ghost use Rattle.rtm_system_world.specs.Beyond.{CanDoBeyond};
 ghost use Rattle.rtm_system_world.specs.Follows.{Follows};
@@ -25,9 +28,11 @@ impl World {
     // An entry changes its own unit's control blocks.
     fn change_own(&mut self, deck: &Deck, index: u32, unit: u16, what: &What)
         requires in_range { unit < length self.old.units }
-        requires can { CanApplyTo deck.now (core_at unit self.old) self.old.managers (first_abort (UnitOfWork.pending (unit_at unit self.old.units))) what.now }
-        requires index { index < 4294967295 }
-        ensures { self.new ≡ record self.old { units = on_unit unit (own_change deck.now index self.old.managers what.now) self.old.units } }
+        requires can { CanApplyTo deck.now (core_at unit self.old) self.old.managers
+            (first_abort (UnitOfWork.pending (unit_at unit self.old.units))) what.now }
+        requires index { index + 1 < words }
+        ensures { self.new
+            ≡ record self.old { units = on_unit unit (own_change deck.now index self.old.managers what.now) self.old.units } }
     {
         units::change_own(&mut self.units, deck, index, &self.managers, unit, what);
     }
@@ -47,7 +52,8 @@ impl World {
     // A unit begins to end: its subtasks are aborted.
     fn abort_subtasks(&mut self, deck: &Deck, index: u32, unit: u16)
         requires shape { IsShaped deck.now self.old }
-        ensures { self.new ≡ record self.old { units = post_to_subtasks unit (mother_abort index) (Tree.lives self.old.tree) self.old.units } }
+        ensures { self.new
+            ≡ record self.old { units = post_to_subtasks unit (mother_abort index) (Tree.lives self.old.tree) self.old.units } }
     {
         units::post_to_subtasks(
             &mut self.units,
@@ -84,7 +90,8 @@ impl World {
     // A unit has ended.
     fn end_unit(&mut self, deck: &Deck, index: u32, unit: u16, code: Code, cause: &Option<Sdwa>)
         requires shape { IsShaped deck.now self.old }
-        requires related { option_map_or (λ task. task) (related_task deck.now unit) 0 < length self.old.units }
+        requires related { option_map_or (λ task. task)
+            (related_task deck.now unit) 0 < length self.old.units }
         requires job { job_step deck.now < length self.old.units }
         ensures { self.new ≡ after_done deck.now index unit code cause.now self.old }
     {
@@ -109,7 +116,8 @@ impl World {
 
     // A routine was left; a manager's is gone.
     fn leave(&mut self, kind: Kind, born: u32)
-        ensures { self.new ≡ record self.old { managers = managers_left kind born self.old.managers } }
+        ensures { self.new
+            ≡ record self.old { managers = managers_left kind born self.old.managers } }
     {
         if kind == Kind::Mgr {
             self.managers.left(born);
@@ -122,7 +130,7 @@ impl World {
         requires owners { length self.old.holdings ≡ length deck.now.units + 1 }
         requires unit { unit < length self.old.units }
         requires can { CanDoBeyond deck.now index self.old unit what.now }
-        requires index { index < 4294967295 }
+        requires index { index + 1 < words }
         ensures { self.new ≡ beyond deck.now index unit what.now self.old }
     {
         match *what {
@@ -154,7 +162,7 @@ impl World {
     #[tactic(auto, using(crate::proofs::Applying::shape_after, crate::proofs::Applying::owners_are, crate::proofs::Applying::unit_after))]
     pub fn apply(&mut self, deck: &Deck, index: u32, entry: &Entry)
         requires follows { Follows deck.now index self.old entry.now }
-        requires index { index < 4294967295 }
+        requires index { index + 1 < words }
         ensures { self.new ≡ advance deck.now self.old index entry.now }
     {
         deck.keeps_its_form();

@@ -2,6 +2,7 @@
 
 ghost use Rattle.std.specs.Prelude.{◌≡◌, ◌<◌, ◌≤◌, ◌==◌, ◌&&◌, ◌||◌, Some, None, Option, length, nat_le, not, slice_get, is_none};
 ghost use Rattle.rtm_model.specs.Arrivals.{arrival_entry, arrival_fate, arrival_of, earlier_count, first_arrival, goes_on, is_cancellable, is_in_turn, may_arrive};
+ghost use Rattle.rtm_cards.specs.Limits.{most_commands};
 ghost use Rattle.rtm_model.specs.World.{unit_at};
 ghost use Rattle.rtm_system_world.specs.Shape.{IsShaped};
 
@@ -109,8 +110,10 @@ impl World {
         cmd: usize,
         command: Command,
     ) -> Option<Entry>
-        requires { cmd < 64 }
-        ensures { result ≡ arrival_of command.target cmd (arrival_fate deck.now self.now entries quiet cmd (Some command)) }
+        requires { cmd < most_commands }
+        ensures { result
+            ≡ arrival_of command.target cmd
+            (arrival_fate deck.now self.now entries quiet cmd (Some command)) }
     {
         let fate = self.arrival_fate(deck, entries, quiet, cmd, command);
         arrival_of(command.target, cmd as u8, fate)
@@ -120,7 +123,7 @@ impl World {
     /// that no unit has a next entry.
     #[tactic(auto, using(crate::proofs::Arriving::arrives_here, crate::proofs::Arriving::arrives_later, crate::proofs::Arriving::arrives_never))]
     pub fn first_arrival(&self, deck: &Deck, entries: usize, quiet: bool) -> Option<Entry>
-        requires few { length deck.now.commands ≤ 64 }
+        requires few { length deck.now.commands ≤ most_commands }
         ensures { result ≡ first_arrival deck.now self.now entries quiet }
     {
         for cmd in 0..deck.commands.len() {

@@ -1,8 +1,11 @@
 //! What an executed card changes beyond its own unit's control blocks.
 
 ghost use Rattle.std.specs.Prelude.{◌≡◌, ◌<◌, ◌≤◌, ◌+◌, ◌==◌, ◌∷◌, length, None, Some, [], IsTrue, if◌then◌else◌};
-ghost use Rattle.rtm_model.specs.Births.{after_attach, beyond_card, new_estai, post_to, with_unit};
+ghost use Rattle.rtm_model.specs.Births.{new_estai};
+ghost use Rattle.rtm_model.specs.Posts.{post_to};
+ghost use Rattle.rtm_model.specs.Advance.{after_attach, beyond_card, with_unit};
 ghost use Rattle.rtm_model.specs.Ending.{after_get, after_free, after_delete};
+ghost use Rattle.rtm_model.specs.Limits.{most_managers, words};
 ghost use Rattle.rtm_model.specs.Surroundings.{manager_task};
 ghost use Rattle.rtm_model.specs.World.{unborn_unit, unit_at};
 ghost use Rattle.rtm_system_world.specs.Shape.{IsShaped};
@@ -46,7 +49,7 @@ impl World {
     // SCHEDULE: an SRB is born.
     fn schedule(&mut self, deck: &Deck, index: u32, unit: u16)
         requires born { CanBeBorn self.old unit }
-        requires index { index < 4294967295 }
+        requires index { index + 1 < words }
         ensures { self.new ≡ with_unit deck.now index unit None [] self.old }
     {
         let _born = self.tree.schedule(unit);
@@ -66,7 +69,7 @@ impl World {
         requires shape { IsShaped deck.now self.old }
         requires born { CanBeAttached index self.old mother unit (new_estai index term estai) }
         requires mother { mother < length deck.now.units }
-        requires index { index < 4294967295 }
+        requires index { index + 1 < words }
         ensures { self.new ≡ after_attach deck.now index mother unit estai term self.old }
     {
         let _born = self.tree.attach(mother, unit);
@@ -79,7 +82,8 @@ impl World {
     fn get(&mut self, deck: &Deck, index: u32, unit: u16, class: Res, id: u32)
         requires hold { CanHold deck.now index self.old unit }
         requires shape { length self.old.holdings ≡ length deck.now.units + 1 }
-        ensures { self.new ≡ record self.old { holdings = after_get (record { born = index; class = class; id = id; owner = unit }) self.old.holdings } }
+        ensures { self.new
+            ≡ record self.old { holdings = after_get (record { born = index; class = class; id = id; owner = unit }) self.old.holdings } }
     {
         let _got = self.holdings.get(Holding {
             born: index,
@@ -91,15 +95,18 @@ impl World {
 
     /// FREE, and a release at an end: the newest equal holding goes.
     pub(crate) fn free(&mut self, unit: u16, class: Res, id: u32)
-        ensures { self.new ≡ record self.old { holdings = after_free unit class id self.old.holdings } }
+        ensures { self.new
+            ≡ record self.old { holdings = after_free unit class id self.old.holdings } }
     {
         let _freed = self.holdings.free(unit, class, id);
     }
 
     // RESMGR ADD.
     fn add_manager(&mut self, index: u32, prog: u16, task: Option<u16>)
-        requires { length self.old.managers < 64 }
-        ensures { self.new ≡ record self.old { managers = record { born = index; prog = prog; task = task } ∷ self.old.managers } }
+        requires { length self.old.managers < most_managers }
+        ensures { self.new
+            ≡ record self.old
+            { managers = record { born = index; prog = prog; task = task } ∷ self.old.managers } }
     {
         let _added = self.managers.add(Manager1 {
             born: index,
@@ -120,7 +127,7 @@ impl World {
         requires shape { IsShaped deck.now self.old }
         requires can { CanGoBeyond deck.now index self.old unit rc op.now }
         requires units { IsTrue (is_of_units op.now) }
-        requires index { index < 4294967295 }
+        requires index { index + 1 < words }
         ensures { self.new ≡ beyond_card deck.now index unit rc op.now self.old }
     {
         match *op {
@@ -155,7 +162,7 @@ impl World {
         requires shape { IsShaped deck.now self.old }
         requires owners { length self.old.holdings ≡ length deck.now.units + 1 }
         requires can { CanGoBeyond deck.now index self.old unit rc op.now }
-        requires index { index < 4294967295 }
+        requires index { index + 1 < words }
         ensures { self.new ≡ beyond_card deck.now index unit rc op.now self.old }
     {
         match *op {

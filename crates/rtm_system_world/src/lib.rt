@@ -8,8 +8,10 @@ mod beyond;
 mod needs;
 mod next_entry;
 mod posted;
+mod send;
 mod surroundings;
 mod units;
 mod world;
 
+pub use send::types_are_send;
 pub use world::World;

@@ -33,7 +33,8 @@ impl World {
     fn next_of_ending(&self, deck: &Deck, unit: u16, state: &UnitOfWork) -> Option<What>
         requires state { state.now ≡ unit_at unit self.now.units }
         requires ending { is_ending state.now.core ≡ true }
-        ensures { result ≡ next_unit deck.now (core_at unit self.now) (surroundings deck.now self.now unit) }
+        ensures { result
+            ≡ next_unit deck.now (core_at unit self.now) (surroundings deck.now self.now unit) }
     {
         state.next(deck, &self.needs_of_end(deck, unit))
     }
@@ -43,7 +44,8 @@ impl World {
     #[inline(never)]
     fn next_by_case(&self, deck: &Deck, unit: u16, state: &UnitOfWork) -> Option<What>
         requires state { state.now ≡ unit_at unit self.now.units }
-        ensures { result ≡ next_unit deck.now (core_at unit self.now) (surroundings deck.now self.now unit) }
+        ensures { result
+            ≡ next_unit deck.now (core_at unit self.now) (surroundings deck.now self.now unit) }
     {
         if is_ending(state) {
             self.next_of_ending(deck, unit, state)
@@ -58,7 +60,8 @@ impl World {
     fn next_by_card(&self, deck: &Deck, unit: u16, state: &UnitOfWork) -> Option<What>
         requires state { state.now ≡ unit_at unit self.now.units }
         requires normal { runs_normally state.now ≡ true }
-        ensures { result ≡ next_unit deck.now (core_at unit self.now) (surroundings deck.now self.now unit) }
+        ensures { result
+            ≡ next_unit deck.now (core_at unit self.now) (surroundings deck.now self.now unit) }
     {
         match state.card_here(deck, &Op::Return) {
             Op::Nop => state.execution(),
@@ -74,7 +77,9 @@ impl World {
         requires state { state.now ≡ unit_at unit self.now.units }
         requires normal { runs_normally state.now ≡ true }
         ensures value { result ≡ waits_by deck.now self.now unit (op_here deck.now state.now.core) }
-        ensures none { result ≡ true → next_unit deck.now (core_at unit self.now) (surroundings deck.now self.now unit) ≡ None }
+        ensures none { result ≡ true
+            → next_unit deck.now (core_at unit self.now) (surroundings deck.now self.now unit)
+            ≡ None }
     {
         match state.card_here(deck, &Op::Return) {
             Op::Wait { event } => has_to_wait(deck, unit, state, self.tree.event_posted(*event)),
@@ -87,7 +92,9 @@ impl World {
     #[inline(always)]
     fn waits(&self, deck: &Deck, unit: u16) -> bool
         ensures value { result ≡ waits deck.now self.now unit }
-        ensures none { result ≡ true → next_unit deck.now (core_at unit self.now) (surroundings deck.now self.now unit) ≡ None }
+        ensures none { result ≡ true
+            → next_unit deck.now (core_at unit self.now) (surroundings deck.now self.now unit)
+            ≡ None }
     {
         match self.units.get(unit as usize) {
             None => false,
@@ -109,7 +116,8 @@ impl World {
 
     // The next entry of the unit of that number, where it lives and memory end hasn't begun.
     fn next_of_living(&self, deck: &Deck, unit: u16) -> Option<What>
-        ensures { result ≡ next_unit deck.now (core_at unit self.now) (surroundings deck.now self.now unit) }
+        ensures { result
+            ≡ next_unit deck.now (core_at unit self.now) (surroundings deck.now self.now unit) }
     {
         match self.units.get(unit as usize) {
             None => None,
@@ -128,7 +136,10 @@ impl World {
     #[inline(never)]
     fn next_at_memory_end(&self, deck: &Deck, code: Code) -> Option<What>
         requires shape { IsShaped deck.now self.now }
-        ensures { result ≡ next_master deck.now (core_at (master deck.now) self.now) (surroundings deck.now self.now (master deck.now)) code (position is_living (Tree.lives self.now.tree)) }
+        ensures { result
+            ≡ next_master deck.now (core_at (master deck.now) self.now)
+            (surroundings deck.now self.now (master deck.now)) code
+            (position is_living (Tree.lives self.now.tree)) }
     {
         let state = &self.units[deck.unit_count() as usize];
         let living = self.tree.first_living();

@@ -1,7 +1,7 @@
 //! The aborts that the machine posts (codes: MVS System Codes; retry, TERM-only and merging are this profile's).
 
 ghost use Rattle.std.specs.Prelude.{◌≡◌};
-ghost use Rattle.rtm_model.specs.Births.{abterm_abort, cancel_abort, detach_abort, mother_abort, srb_abort, step_abort};
+ghost use Rattle.rtm_model.specs.Posts.{abterm_abort, cancel_abort, detach_abort, mother_abort, srb_abort, step_abort};
 
 use rtm_codes::Code;
 use rtm_model::{Abort, Class};

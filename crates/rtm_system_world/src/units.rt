@@ -2,8 +2,12 @@
 
 ghost use Rattle.std.specs.Prelude.{◌≡◌, ◌<◌, ◌≤◌, ◌+◌, ◌==◌, length, slice_set, [], is_some, if◌then◌else◌};
 ghost use Rattle.rtm_model.specs.Aborts.{first_abort};
-ghost use Rattle.rtm_model.specs.Births.{own_change, with_posted, purged_core, post_to_subtasks};
+ghost use Rattle.rtm_model.specs.Posts.{with_posted, post_to_subtasks};
+ghost use Rattle.rtm_model.specs.OwnChange.{own_change};
+ghost use Rattle.rtm_model.specs.Advance.{purged_core};
 ghost use Rattle.rtm_model.specs.Chains.{inherited_estais};
+ghost use Rattle.rtm_cards.specs.Limits.{most_units};
+ghost use Rattle.rtm_model.specs.Limits.{words};
 ghost use Rattle.rtm_model.specs.World.{Core, at_birth, on_unit, unborn_unit, unit_at};
 ghost use Rattle.rtm_model.specs.Tasks.{Tree, life_of};
 ghost use Rattle.rtm_system_world.specs.Posting.{post_if_subtask};
@@ -25,9 +29,11 @@ pub(crate) fn change_own(
     what: &What,
 )
     requires in_range { unit < length units.old.items }
-    requires can { CanApplyTo deck.now (unit_at unit units.old.items).core managers.now (first_abort (unit_at unit units.old.items).pending) what.now }
-    requires index { index < 4294967295 }
-    ensures { units.new.items ≡ on_unit unit (own_change deck.now index managers.now what.now) units.old.items }
+    requires can { CanApplyTo deck.now (unit_at unit units.old.items).core managers.now
+        (first_abort (unit_at unit units.old.items).pending) what.now }
+    requires index { index + 1 < words }
+    ensures { units.new.items
+        ≡ on_unit unit (own_change deck.now index managers.now what.now) units.old.items }
 {
     units[unit as usize].apply(deck, index, managers, what);
 }
@@ -44,7 +50,8 @@ pub(crate) fn post_at(units: &mut Vec<UnitOfWork>, unit: u16, abort: Abort, late
 pub(crate) fn count_arrival_at(units: &mut Vec<UnitOfWork>, unit: u16)
     requires in_range { unit < length units.old.items }
     requires few { (unit_at unit units.old.items).arrived < 255 }
-    ensures { units.new.items ≡ on_unit unit (λ unit. record unit { arrived = unit.arrived + 1 }) units.old.items }
+    ensures { units.new.items
+        ≡ on_unit unit (λ unit. record unit { arrived = unit.arrived + 1 }) units.old.items }
 {
     units[unit as usize].count_arrival();
 }
@@ -52,7 +59,9 @@ pub(crate) fn count_arrival_at(units: &mut Vec<UnitOfWork>, unit: u16)
 /// Memory end takes a unit away.
 pub(crate) fn purge_at(units: &mut Vec<UnitOfWork>, unit: u16)
     requires in_range { unit < length units.old.items }
-    ensures { units.new.items ≡ on_unit unit (λ unit. record unit { core = purged_core unit.core; pending = [] }) units.old.items }
+    ensures { units.new.items
+        ≡ on_unit unit
+        (λ unit. record unit { core = purged_core unit.core; pending = [] }) units.old.items }
 {
     units[unit as usize].purge();
 }
@@ -80,8 +89,12 @@ pub(crate) fn be_attached_at(
     requires mother { mother < length units.old.items }
     requires other { unit ≡ mother → ⊥ }
     requires unborn { unit_at unit units.old.items ≡ unborn_unit }
-    requires room { length (inherited_estais own (Core.estais (unit_at mother units.old.items).core)) ≤ 63 }
-    ensures { units.new.items ≡ on_unit unit (at_birth born prog (inherited_estais own (Core.estais (unit_at mother units.old.items).core))) units.old.items }
+    requires room { length
+        (inherited_estais own (Core.estais (unit_at mother units.old.items).core)) ≤ 63 }
+    ensures { units.new.items
+        ≡ on_unit unit
+        (at_birth born prog (inherited_estais own (Core.estais (unit_at mother units.old.items).core)))
+        units.old.items }
 {
     if mother < unit {
         let (front, back) = units.split_at_mut(unit as usize);
@@ -101,7 +114,9 @@ fn post_if_subtask(
     abort: Abort,
 )
     requires { unit < length units.old.items }
-    ensures { units.new.items ≡ slice_set units.old.items unit (post_if_subtask mother abort (life_of unit (Tree.lives tree.now)) (unit_at unit units.old.items)) }
+    ensures { units.new.items
+        ≡ slice_set units.old.items unit
+        (post_if_subtask mother abort (life_of unit (Tree.lives tree.now)) (unit_at unit units.old.items)) }
 {
     if tree.is_subtask(mother, unit) {
         let late = units[unit as usize].has_begun();
@@ -117,7 +132,7 @@ pub(crate) fn post_to_subtasks(
     unit: u16,
     abort: Abort,
 )
-    requires few { length (Tree.lives tree.now) ≤ 64 }
+    requires few { length (Tree.lives tree.now) ≤ most_units }
     requires shape { length (Tree.lives tree.now) < length units.old.items }
     ensures { units.new.items ≡ post_to_subtasks unit abort (Tree.lives tree.now) units.old.items }
 {

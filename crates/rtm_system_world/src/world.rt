@@ -69,7 +69,8 @@ impl World {
 impl World {
     /// Whether the target of a command has begun to end, has ended or was purged, or memory end has begun.
     pub fn is_gone(&self, target: u16) -> bool
-        ensures { result ≡ (has_ended (life_of target (Tree.lives self.now.tree)) || is_some (Core.begun (core_at target self.now)) || is_some self.now.memory_end) }
+        ensures { result
+            ≡ (has_ended (life_of target (Tree.lives self.now.tree)) || is_some (Core.begun (core_at target self.now)) || is_some self.now.memory_end) }
     {
         self.tree.ended(target) || self.has_begun(target) || self.memory_end.is_some()
     }

@@ -27,7 +27,8 @@ impl Model for Events {
 
     ghost view = { λ a. reverse a.list.items };
 
-    ghost invariant = { λ a. AreEvents (reverse a.list.items) × (256 ≤ vec_capacity a.list) × Tells a.posted.items (reverse a.list.items) };
+    ghost invariant = { λ a. AreEvents (reverse a.list.items) × (256 ≤ vec_capacity a.list)
+        × Tells a.posted.items (reverse a.list.items) };
 }
 
 fn unposted_events(alloc: Global) -> Result<Vec<bool>, NoMemory>

@@ -35,7 +35,8 @@ impl Model for TaskTree {
 
     ghost view = { λ a. record { lives = a.lives.items; events = a.events } };
 
-    ghost invariant = { λ a. (length a.subtasks.items ≡ length a.lives.items) × AreCounts a.subtasks.items a.lives.items };
+    ghost invariant = { λ a. (length a.subtasks.items ≡ length a.lives.items)
+        × AreCounts a.subtasks.items a.lives.items };
 }
 
 fn dormant_lives(alloc: Global, units: &[Unit]) -> Result<Vec<UnitLife>, NoMemory>
@@ -147,7 +148,8 @@ fn subtask_count(subtasks: &[usize], unit: u16) -> usize
 fn add_subtask(subtasks: &mut Vec<usize>, mother: u16)
     requires in_range { mother < length subtasks.old.items }
     requires fits { slice_index subtasks.old.items mother + 1 < 2 ^ 64 }
-    ensures { subtasks.new.items ≡ slice_set subtasks.old.items mother (slice_index subtasks.old.items mother + 1) }
+    ensures { subtasks.new.items
+        ≡ slice_set subtasks.old.items mother (slice_index subtasks.old.items mother + 1) }
 {
     let count = subtask_count(subtasks, mother);
     subtasks[mother as usize] = count + 1;
@@ -156,7 +158,8 @@ fn add_subtask(subtasks: &mut Vec<usize>, mother: u16)
 // One living subtask less.
 fn drop_subtask(subtasks: &mut Vec<usize>, mother: u16)
     requires { 0 < slice_index subtasks.old.items mother }
-    ensures { subtasks.new.items ≡ slice_set subtasks.old.items mother (slice_index subtasks.old.items mother - 1) }
+    ensures { subtasks.new.items
+        ≡ slice_set subtasks.old.items mother (slice_index subtasks.old.items mother - 1) }
 {
     let count = subtask_count(subtasks, mother);
     subtasks[mother as usize] = count - 1;
@@ -218,7 +221,8 @@ impl TaskTree {
 
     /// The units of those cards, where the one of the number `first` lives.
     pub(crate) fn of_units(alloc: Global, units: &[Unit], first: u16) -> Result<TaskTree, NoMemory>
-        ensures { IfOk result (λ tree. tree ≡ record { lives = lives_at_start units.now first; events = [] }) }
+        ensures { IfOk result
+            (λ tree. tree ≡ record { lives = lives_at_start units.now first; events = [] }) }
     {
         let mut lives = dormant_lives(alloc, units)?;
         set_life(&mut lives, first as usize, UnitLife::at_birth(None));

@@ -4,13 +4,6 @@ use crate::{NotDormant, TaskTree};
 use rtm_deck_items::{Name, Unit, UnitKind};
 use std::test::Fail;
 
-fn is_send<T: Send>() {}
-
-#[test]
-fn trees_may_move_to_another_thread() {
-    is_send::<TaskTree>();
-}
-
 fn unit(kind: UnitKind) -> Unit {
     Unit {
         name: Name(*b"UNIT    "),

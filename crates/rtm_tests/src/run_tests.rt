@@ -1,14 +1,14 @@
 //! Decks that are run, with their traces and statuses.
 
 mod aborts;
+pub mod bare;
 pub mod endings;
-mod limits;
 mod recovery;
 mod units;
 
 use rtm_io::{MemSink, MemSource};
 use rtm_top::{RtmWord, Status, plain_words};
-use std::alloc::{AllocError, Global};
+use std::alloc::Global;
 use std::process::Abort;
 use std::test::Fail;
 
@@ -18,24 +18,6 @@ pub struct Row {
     pub deck: &'static str,
     pub status: Status,
     pub trace: &'static str,
-}
-
-/// A deck that runs to its end, and the entries of its trace without their indices.
-pub struct Long {
-    pub name: &'static str,
-    pub deck: &'static [Part],
-    pub trace: &'static [Part],
-}
-
-/// Some lines of a long text.
-pub enum Part {
-    /// These lines.
-    Once(&'static str),
-    /// These lines, so many times.
-    Times(u32, &'static str),
-    /// These lines, so many times, with a number in the place of each `#`: at first the second number, and from one time
-    /// to the next so much more as the third says.
-    Numbered(u32, i32, i32, &'static str),
 }
 
 // The deck of the table of cancels, up to the number in AT=.
@@ -114,55 +96,11 @@ fn is_run(
     Ok(())
 }
 
-// Adds a line, with the number in the place of its `#`.
-fn add_line(alloc: Global, text: &mut String, line: &str, number: i32) -> Result<(), AllocError> {
-    match line.split_once('#') {
-        None => text.push_str(line)?,
-        Some((front, back)) => {
-            let digits = format!(in alloc; "{number}")?;
-            text.push_str(front)?;
-            text.push_str(&digits)?;
-            text.push_str(back)?;
-        }
-    }
-    text.push_str("\n")
-}
-
-// All lines, one after the other.
-fn text_of(alloc: Global, parts: &[Part]) -> Result<String, AllocError> {
-    let mut text = String::new(alloc);
-    for part in parts {
-        let (count, mut number, step, lines) = match *part {
-            Part::Once(lines) => (1, 0, 0, lines),
-            Part::Times(count, lines) => (count, 0, 0, lines),
-            Part::Numbered(count, first, step, lines) => (count, first, step, lines),
-        };
-        for _ in 0..count {
-            for line in lines.lines() {
-                add_line(alloc, &mut text, line, number)?;
-            }
-            number = number.wrapping_add(step);
-        }
-    }
-    Ok(text)
-}
-
-// The trace of these entries, each with its index, that ends with the address space.
-fn trace_of(alloc: Global, parts: &[Part]) -> Result<String, AllocError> {
-    let entries = text_of(alloc, parts)?;
-    let mut text = String::from_str(alloc, "RTMTRACE 1\n")?;
-    for (index, entry) in entries.as_str().lines().enumerate() {
-        let line = format!(in alloc; "{index} {entry}\n")?;
-        text.push_str(&line)?;
-    }
-    text.push_str("END ENDED\n")?;
-    Ok(text)
-}
-
 #[test]
 fn decks_of_each_kind_are_run(rt: HostRuntime) -> Result<(), Fail> {
     for rows in [
         recovery::ROWS.as_slice(),
+        bare::ROWS.as_slice(),
         aborts::ROWS.as_slice(),
         units::ROWS.as_slice(),
         endings::ROWS.as_slice(),
@@ -170,16 +108,6 @@ fn decks_of_each_kind_are_run(rt: HostRuntime) -> Result<(), Fail> {
         for row in rows {
             is_run(&rt, row.name, row.deck, row.status, row.trace)?;
         }
-    }
-    Ok(())
-}
-
-#[test]
-fn limits_are_kept(rt: HostRuntime) -> Result<(), Fail> {
-    for long in &limits::ROWS {
-        let deck = text_of(rt.alloc(), long.deck)?;
-        let trace = trace_of(rt.alloc(), long.trace)?;
-        is_run(&rt, long.name, &deck, Status::Fine, &trace)?;
     }
     Ok(())
 }
@@ -206,22 +134,5 @@ fn a_cancel_lands_at_every_point(rt: HostRuntime) -> Result<(), Fail> {
     assert!(rt; !text.contains("LAND"));
     assert!(rt; text.contains(" JOB BEGIN S000\n"));
     assert_eq!(rt; text.lines().count(), 23);
-    Ok(())
-}
-
-#[test]
-fn sixty_tasks_are_run(rt: HostRuntime) -> Result<(), Fail> {
-    let deck = text_of(rt.alloc(), &limits::SIXTY_TASKS)?;
-    let (out, status) = run(rt.alloc(), &deck)?;
-    let text = str::from_utf8(out.bytes())?;
-    let mut releases = 0_u32;
-    for line in text.lines() {
-        if line.contains(" RELEASE ") {
-            releases = releases.wrapping_add(1);
-        }
-    }
-    assert!(rt; status == Status::Fine);
-    assert_eq!(rt; text.lines().count(), 29_347);
-    assert_eq!(rt; releases, 2_461);
     Ok(())
 }

@@ -1,7 +1,7 @@
 //! Traces that are verified, and decks that are made and run.
 
 use crate::program_tests::{ROW_1, TRACE_1, words};
-use crate::run_tests::endings;
+use crate::run_tests::{bare, endings};
 use rtm_io::{MemSink, MemSource};
 use rtm_top::{RtmWord, Status, plain_words};
 use std::process::Abort;
@@ -137,6 +137,12 @@ static SHORT: [Judged; 10] = [
     ),
 ];
 
+// The entries before a routine is entered, where an ABEND is the second card.
+const BEFORE_ENTER: &str = "RTMTRACE 1
+0 JOB EXEC MAIN.1 RC=0
+1 JOB ERROR MAIN.2 S0C1
+";
+
 // Input that isn't a deck with a trace: a deck that is refused, and one that no card ends.
 static REFUSED: [(&str, &str); 3] = [
     (
@@ -192,6 +198,37 @@ fn traces_are_judged(rt: HostRuntime) -> Result<(), Fail> {
     }
     for (input, text) in REFUSED.iter() {
         is_said(&rt, &["verify"], &[], input, &[], Status::Deck, text)?;
+    }
+    Ok(())
+}
+
+#[test]
+fn traces_without_an_sdwa_are_judged(rt: HostRuntime) -> Result<(), Fail> {
+    let right = [
+        "VERIFIED 10 ENDED\n",
+        "VERIFIED 8 ENDED\n",
+        "VERIFIED 9 ENDED\n",
+    ];
+    for (row, text) in bare::ROWS.iter().zip(right) {
+        let trace = [row.trace];
+        is_said(&rt, &["verify"], &[], row.deck, &trace, Status::Fine, text)?;
+    }
+    let wrong = [
+        (
+            0,
+            "2 JOB ENTER ESTAE 0 S0C1\n",
+            "NOTLEGAL 2 WANTED JOB ENTER ESTAE 0 S0C1 NOSDWA\n",
+        ),
+        (
+            2,
+            "2 JOB ENTER FRR 0 S0C1 NOSDWA\n",
+            "NOTLEGAL 2 WANTED JOB ENTER FRR 0 S0C1\n",
+        ),
+    ];
+    for (row, line, text) in wrong {
+        let deck = bare::ROWS[row].deck;
+        let trace = [BEFORE_ENTER, line, ENDED];
+        is_said(&rt, &["verify"], &[], deck, &trace, Status::NotLegal, text)?;
     }
     Ok(())
 }

@@ -14,7 +14,7 @@ use Rattle.rtm_model.specs.declared.entry.End.{End}
 use Rattle.rtm_model.specs.declared.entry.Entry.{Entry}
 use Rattle.rtm_model.specs.Legal.{end_of}
 use Rattle.rtm_model.specs.Turns.{seq}
-use Rattle.rtm_deck_split.specs.Split.{front_in, trace_part}
+use Rattle.rtm_cards.specs.Split.{front_in, trace_part}
 use Rattle.rtm_trace.specs.Lines.{IsTraceOf}
 use Rattle.rtm_trace.specs.View.{TraceView}
 use Rattle.rtm_trace.proofs.Replies.{not_both}

@@ -5,7 +5,7 @@ use Rattle.std.proofs.lemmas.List.Sums.{sum_by-cons}
 use Rattle.rtm_io.specs.Input.{IsInFault, IsTooLong, line_at}
 use Rattle.rtm_io.specs.declared.input.InFault.{InFault}
 use Rattle.rtm_io.specs.declared.input.InFault.TheVariants.{TooLong}
-use Rattle.rtm_cards.specs.Limits.{max_bytes}
+use Rattle.rtm_cards.specs.Limits.{most_bytes}
 use Rattle.rtm_cards.specs.Lines.{number_at}
 use Rattle.rtm_deck_items.specs.declared.why.Why.TheVariants as whys
 use Rattle.rtm_deck_items.specs.Faults.{IsFirstFault}
@@ -58,22 +58,22 @@ sampled limit line some few =
     (sample (line - 1) others, omega (arith, many, some, few), omega (arith, feeds, some))
 
 -- too many bytes, of which the first too many is on that line, have that first fault
-too_long : (bytes : List ℕ) (line : ℕ) → max_bytes < length bytes → line ≡ line_at bytes max_bytes → IsFirstFault bytes line whys.TooLong
+too_long : (bytes : List ℕ) (line : ℕ) → most_bytes < length bytes → line ≡ line_at bytes most_bytes → IsFirstFault bytes line whys.TooLong
 too_long bytes line long e = record {
-  by_size = λ _. (e ∙ sym (number_is bytes max_bytes), refl);
+  by_size = λ _. (e ∙ sym (number_is bytes most_bytes), refl);
   by_card = λ few. absurd (omega (arith, long, few));
 }
 
 -- some bytes that the source may have had left, with that first fault
-some_bytes : (left new : Option (List ℕ)) (line : ℕ) → IsTooLong max_bytes left new line
-    → (bytes : List ℕ) × IfSome left (λ told. bytes ≡ told) × (max_bytes < length bytes) × IsFirstFault bytes line whys.TooLong
+some_bytes : (left new : Option (List ℕ)) (line : ℕ) → IsTooLong most_bytes left new line
+    → (bytes : List ℕ) × IfSome left (λ told. bytes ≡ told) × (most_bytes < length bytes) × IsFirstFault bytes line whys.TooLong
 some_bytes None new line h =
-    let some = sampled max_bytes line h.in_range.0 h.in_range.1 in
+    let some = sampled most_bytes line h.in_range.0 h.in_range.1 in
     (some.0, tt, some.1, too_long some.0 line some.1 some.2)
 some_bytes (Some told) new line h = (told, refl, h.longer, too_long told line h.longer h.in_line)
 
 -- the refusal of an input with that first fault is what is to be written
-is_refusal : (request : Request) (bytes : List ℕ) (a : AnswerView) (card : ℕ) → Reads request → max_bytes < length bytes → IsFirstFault bytes card whys.TooLong
+is_refusal : (request : Request) (bytes : List ℕ) (a : AnswerView) (card : ℕ) → Reads request → most_bytes < length bytes → IsFirstFault bytes card whys.TooLong
     → a ≡ refusal card whys.TooLong → IsAnswer request bytes a
 is_refusal requests.Scan bytes a card reads long f e = inl (record { card = card; why = whys.TooLong; fault = f; is = e })
 is_refusal requests.Seq bytes a card reads long f e = inl (record { card = card; why = whys.TooLong; fault = f; is = e })
@@ -82,7 +82,7 @@ is_refusal requests.Verify bytes a card reads long f e =
 is_refusal (requests.Load tasks) bytes a card reads long f e = absurd reads
 
 -- of more bytes than are read
-pub of_too_long : {E : Type 0} (request : Request) (left new : Option (List ℕ)) (line : ℕ) (r : Result AnswerView E) → Reads request → IsTooLong max_bytes left new line
+pub of_too_long : {E : Type 0} (request : Request) (left new : Option (List ℕ)) (line : ℕ) (r : Result AnswerView E) → Reads request → IsTooLong most_bytes left new line
     → IfOk r (λ a. a ≡ refusal line whys.TooLong) → IfOk r (IsDue request left)
 of_too_long request left new line (Ok a) reads h e =
     let some = some_bytes left new line h in
@@ -91,6 +91,6 @@ of_too_long request left new line (Err x) reads h e = tt
 
 -- the same of a fault that is that one
 pub of_fault : {E : Type 0} (request : Request) (left new : Option (List ℕ)) (before now line : ℕ) (fault : InFault) (r : Result AnswerView E) → Reads request
-    → fault ≡ TooLong line → IsInFault max_bytes left new before now fault → IfOk r (λ a. a ≡ refusal line whys.TooLong) → IfOk r (IsDue request left)
+    → fault ≡ TooLong line → IsInFault most_bytes left new before now fault → IfOk r (λ a. a ≡ refusal line whys.TooLong) → IfOk r (IsDue request left)
 of_fault request left new before now line fault r reads e h is =
-    of_too_long request left new line r reads (subst (λ (f : InFault). IsInFault max_bytes left new before now f) e h).0 is
+    of_too_long request left new line r reads (subst (λ (f : InFault). IsInFault most_bytes left new before now f) e h).0 is

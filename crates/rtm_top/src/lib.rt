@@ -3,10 +3,12 @@
 
 mod outcome;
 mod request;
+mod send;
 mod top;
 mod word;
 
 pub use outcome::Outcome;
 pub use rtm_top_answers::Status;
+pub use send::types_are_send;
 pub use top::plain_words;
 pub use word::RtmWord;

@@ -21,7 +21,8 @@ pub enum Request {
 
 /// What the words ask for, where they are those of a request.
 pub fn request_of(words: &[RtmWord]) -> Option<Request>
-    ensures { MatchOption result (AreUnknown words.now) (λ request. IsRequest request × (words.now ≡ words_of request)) }
+    ensures { MatchOption result (AreUnknown words.now)
+        (λ request. IsRequest request × (words.now ≡ words_of request)) }
 {
     match words {
         [word] if is_word(word, b"scan") => Some(Request::Scan),

@@ -1,6 +1,7 @@
 //! The top call: all that the program does, over a source and a sink.
 
 ghost use Rattle.std.specs.Prelude.{◌≡◌, ◌≢◌, ◌↔◌, ◌≤◌, ◌+◌, ℕ, IfOk, IfErr, OnOk, OnErr, length};
+ghost use Rattle.rtm_cards.specs.Limits.{most_bytes};
 ghost use Rattle.rtm_io.specs.Stream.{TakesAtMost};
 ghost use Rattle.rtm_deck_items.specs.Faults.{IsFirstFault};
 ghost use Rattle.rtm_top.specs.Answer.{IsAnswer, IsDue, IsSent, IsUnread, Says};
@@ -13,6 +14,7 @@ ghost use Rattle.rtm_top_answers.specs.Refusal.{refusal};
 use crate::outcome::Outcome;
 use crate::request::{Request, request_of};
 use crate::word::RtmWord;
+use rtm_cards::MOST_BYTES;
 use rtm_codes::NoMemory;
 use rtm_deck_items::Why;
 use rtm_io::{InFault, Sink, Source, read_all, write_all};
@@ -20,9 +22,6 @@ use rtm_top_answers::{
     Answer, Status, load_answer, refusal, scan_answer, seq_answer, verify_answer,
 };
 use std::alloc::Global;
-
-// At most this many bytes are read (this profile).
-const INPUT_LIMIT: usize = 16_777_216;
 
 // Want of memory is the status Memory.
 fn or_memory(answer: Result<Answer, NoMemory>) -> Result<Answer, Status>
@@ -38,7 +37,7 @@ fn or_memory(answer: Result<Answer, NoMemory>) -> Result<Answer, Status>
 // What is to be written of the bytes that were read.
 fn answer_of(alloc: Global, request: Request, bytes: &[u8]) -> Result<Answer, Status>
     requires reads { Reads request }
-    requires few { length bytes.now ≤ 16777216 }
+    requires few { length bytes.now ≤ most_bytes }
     ensures ok { IfOk result (IsAnswer request bytes.now) }
     ensures err { IfErr result (λ status. status ≡ Status.Memory) }
 {
@@ -66,10 +65,10 @@ fn read_answer<S: Source>(alloc: Global, request: Request, src: &mut S) -> Resul
     ensures ok { IfOk result (IsDue request (S.left src.old)) }
     ensures err { IfErr result (IsUnread (S.faults src.old) (S.faults src.new)) }
     ensures counted { OnOk result (S.faults src.new ≡ S.faults src.old) }
-    ensures front { TakesAtMost 16777217 (S.left src.old) (S.left src.new) }
+    ensures front { TakesAtMost (most_bytes + 1) (S.left src.old) (S.left src.new) }
     ensures later { S.faults src.old ≤ S.faults src.new }
 {
-    match read_all(alloc, src, INPUT_LIMIT) {
+    match read_all(alloc, src, MOST_BYTES) {
         Ok(bytes) => answer_of(alloc, request, &bytes),
         Err(InFault::TooLong { line }) => too_long_answer(alloc, line),
         Err(InFault::Memory) => Err(Status::Memory),
@@ -94,7 +93,7 @@ fn make_answer<S: Source>(alloc: Global, request: Request, src: &mut S) -> Resul
     ensures err { IfErr result (IsUnread (S.faults src.old) (S.faults src.new)) }
     ensures counted { OnOk result (S.faults src.new ≡ S.faults src.old) }
     ensures untouched { (tasks : ℕ) → request ≡ Request.Load tasks → src.new ≡ src.old }
-    ensures front { TakesAtMost 16777217 (S.left src.old) (S.left src.new) }
+    ensures front { TakesAtMost (most_bytes + 1) (S.left src.old) (S.left src.new) }
     ensures later { S.faults src.old ≤ S.faults src.new }
 {
     match request {
@@ -105,7 +104,8 @@ fn make_answer<S: Source>(alloc: Global, request: Request, src: &mut S) -> Resul
 
 // Writes the answer, and says with which status the call ends.
 fn write_answer<K: Sink>(out: &mut K, answer: &Answer) -> Status
-    ensures sent { IsSent answer.now (K.faults out.old) (K.faults out.new) (K.written out.old) (K.written out.new) result }
+    ensures sent { IsSent answer.now (K.faults out.old) (K.faults out.new)
+        (K.written out.old) (K.written out.new) result }
     ensures later { K.faults out.old ≤ K.faults out.new }
 {
     match write_all(out, &answer.text) {
@@ -142,7 +142,7 @@ pub fn plain_words<S: Source, K: Sink>(
     ensures memory { result.status ≡ Status.Memory → out.new ≡ out.old }
 
     // Whatever the status: the source gave one byte more than are read, at most, and no count of faults fell.
-    ensures front { TakesAtMost 16777217 (S.left src.old) (S.left src.new) }
+    ensures front { TakesAtMost (most_bytes + 1) (S.left src.old) (S.left src.new) }
     ensures later { S.faults src.old ≤ S.faults src.new }
     ensures sink_later { K.faults out.old ≤ K.faults out.new }
 
@@ -181,7 +181,7 @@ fn status_after<S: Source, K: Sink>(
     ensures untouched { (tasks : ℕ) → request ≡ Request.Load tasks → src.new ≡ src.old }
     ensures read { result ≡ Status.Read → out.new ≡ out.old }
     ensures memory { result ≡ Status.Memory → out.new ≡ out.old }
-    ensures front { TakesAtMost 16777217 (S.left src.old) (S.left src.new) }
+    ensures front { TakesAtMost (most_bytes + 1) (S.left src.old) (S.left src.new) }
     ensures later { S.faults src.old ≤ S.faults src.new }
     ensures sink_later { K.faults out.old ≤ K.faults out.new }
     ensures answer { Says request (record {

@@ -11,7 +11,7 @@ use Rattle.rtm_model.specs.declared.entry.End.{End}
 use Rattle.rtm_model.specs.declared.entry.Entry.{Entry}
 use Rattle.rtm_model.specs.Legal.{Legal, end_of}
 use Rattle.rtm_model.specs.Turns.{seq}
-use Rattle.rtm_deck_split.specs.Split.{deck_part, trace_part}
+use Rattle.rtm_cards.specs.Split.{deck_part, trace_part}
 use Rattle.rtm_trace.specs.Lines.{IsFirstBadLine, IsTraceOf}
 use Rattle.rtm_trace.specs.View.{TraceView}
 use Rattle.rtm_top_answers.specs.Load.{IsLoadOf, counted_answer}

@@ -2,7 +2,7 @@
 use Rattle.std.proofs.Common.{◌≡◌, ℕ, ◌<◌, ◌≤◌, Bool, true, false, List, length, sym, ap, arith}
 use Rattle.std.specs.Prelude.{if◌then◌else◌, nat_lt}
 use Rattle.std.proofs.lemmas.Bool.Decides.{nat_tests}
-use Rattle.rtm_deck_split.specs.Split.{deck_part}
+use Rattle.rtm_cards.specs.Split.{deck_part}
 use Rattle.rtm_top_answers.specs.Verify.{faulted_part}
 
 short : (n : ℕ) → n ≤ 16777216 → nat_lt 16777216 n ≡ false

@@ -1,12 +1,12 @@
 -- What is written of a trace that is verified (this profile).
 use Rattle.std.specs.Prelude.{List, None, Option, Some, codes, decimal, if◌then◌else◌, length, nat_lt, ℕ, ◌++◌, ◌≡◌, ◌⊎◌}
-use Rattle.rtm_cards.specs.Limits.{max_bytes}
+use Rattle.rtm_cards.specs.Limits.{most_bytes}
 use Rattle.rtm_deck_items.specs.Spelling.{DeckText}
 use Rattle.rtm_deck_items.specs.View.{DeckView}
 use Rattle.rtm_trace_judge.specs.Judged.{IsFirstIllegal, IsJudged, IsWrongEnd}
 use Rattle.rtm_model.specs.declared.entry.End.{End}
 use Rattle.rtm_model.specs.declared.entry.Entry.{Entry}
-use Rattle.rtm_deck_split.specs.Split.{deck_part, trace_part}
+use Rattle.rtm_cards.specs.Split.{deck_part, trace_part}
 use Rattle.rtm_trace.specs.Lines.{IsFirstBadLine, IsTraceOf}
 use Rattle.rtm_trace.specs.Text.{end_text, entry_text}
 use Rattle.rtm_trace.specs.View.{TraceView}
@@ -16,7 +16,7 @@ use Rattle.rtm_top_answers.specs.View.{AnswerView}
 
 -- the part of the input whose first fault is named: all of it where it is too long as a whole, else the deck
 abbrev pub faulted_part : List ℕ → List ℕ
-faulted_part bytes = if nat_lt max_bytes (length bytes) then bytes else deck_part bytes
+faulted_part bytes = if nat_lt most_bytes (length bytes) then bytes else deck_part bytes
 
 -- the entry that was wanted, or that none was
 abbrev pub wanted_text : DeckView → Option Entry → List ℕ

@@ -6,6 +6,7 @@ mod load;
 mod refusals;
 mod run;
 mod scan;
+mod send;
 mod status;
 mod verify;
 
@@ -14,5 +15,6 @@ pub use load::load_answer;
 pub use refusals::refusal;
 pub use run::seq_answer;
 pub use scan::scan_answer;
+pub use send::types_are_send;
 pub use status::Status;
 pub use verify::verify_answer;

@@ -57,7 +57,6 @@ pub fn load_answer(alloc: Global, tasks: u8) -> Result<Answer, NoMemory>
     requires most { tasks ≤ 60 }
     ensures { IfOk result (IsLoadOf tasks) }
 {
-    let system = system_after_run(alloc, load_deck(alloc, tasks)?)?;
-    let end = system.end().unwrap();
+    let (system, end) = system_after_run(alloc, load_deck(alloc, tasks)?)?;
     counted_answer(alloc, tasks, system.trace(), end)
 }

@@ -1,7 +1,7 @@
 //! What is written of a deck that is run on one thread.
 
-ghost use Rattle.std.specs.Prelude.{◌≡◌, IfOk, IsSome};
-ghost use Rattle.rtm_model.specs.Legal.{Legal, end_of};
+ghost use Rattle.std.specs.Prelude.{◌≡◌, IfOk, Some};
+ghost use Rattle.rtm_model.specs.Legal.{end_of};
 ghost use Rattle.rtm_model.specs.Turns.{seq};
 ghost use Rattle.rtm_top_answers.specs.Run.{IsRunBy, IsSeqAnswer, traced_answer};
 
@@ -18,16 +18,16 @@ use rtm_system::System;
 use rtm_trace::trace_text;
 use std::alloc::Global;
 
-/// A system of the deck that has run on one thread, to its end.
-pub(crate) fn system_after_run(alloc: Global, deck: Deck) -> Result<System, NoMemory>
-    ensures deck { IfOk result (λ system. system.deck ≡ deck) }
-    ensures trace { IfOk result (λ system. system.trace ≡ seq deck) }
-    ensures end { IfOk result (λ system. IsSome (end_of deck system.trace)) }
+/// A system of the deck that has run on one thread, and how its history ends.
+pub(crate) fn system_after_run(alloc: Global, deck: Deck) -> Result<(System, End), NoMemory>
+    ensures deck { IfOk result (λ run. run.0.deck ≡ deck) }
+    ensures trace { IfOk result (λ run. run.0.trace ≡ seq deck) }
+    ensures end { IfOk result (λ run. end_of deck run.0.trace ≡ Some run.1) }
 {
     let mut notes = all_notes(alloc, &deck)?;
     let mut system = System::new(alloc, deck)?;
-    seq_run(&mut system, &mut notes);
-    Ok(system)
+    let end = seq_run(&mut system, &mut notes);
+    Ok((system, end))
 }
 
 // The trace of a system, to its end.
@@ -45,8 +45,7 @@ fn traced_answer(alloc: Global, system: &System, end: End) -> Result<Answer, NoM
 fn run_answer(alloc: Global, deck: Deck) -> Result<Answer, NoMemory>
     ensures { IfOk result (IsRunBy deck (seq deck)) }
 {
-    let system = system_after_run(alloc, deck)?;
-    let end = system.end().unwrap();
+    let (system, end) = system_after_run(alloc, deck)?;
     system.trace();
     traced_answer(alloc, &system, end)
 }

@@ -1,6 +1,7 @@
 //! What is written under `verify`.
 
 ghost use Rattle.std.specs.Prelude.{◌≡◌, ◌≤◌, ◌++◌, IfOk, IfSome, OnOk, length};
+ghost use Rattle.rtm_cards.specs.Limits.{most_bytes};
 ghost use Rattle.rtm_model.specs.Fits.{Fits};
 ghost use Rattle.rtm_top_answers.specs.Verify.{IsJudgement, IsOfTrace, IsVerifyAnswer, bad_line, bad_line_text, found_text};
 ghost use Rattle.rtm_top_answers.specs.Verify.{not_legal, not_legal_text, verified_answer, verified_text, wanted_text};
@@ -9,12 +10,12 @@ ghost use Rattle.rtm_top_answers.specs.Verify.{wrong_end, wrong_end_text};
 use crate::answer::Answer;
 use crate::refusals::refusal;
 use crate::status::Status;
+use rtm_cards::split;
 use rtm_codes::NoMemory;
 use rtm_deck::{DeckFault, read_deck};
 use rtm_deck_items::Deck;
-use rtm_deck_split::split;
 use rtm_model::{End, Entry};
-use rtm_trace::{Trace, TraceFault, end_word, push, push_entry, read_trace};
+use rtm_trace::{TraceFault, end_word, push, push_entry, read_trace};
 use rtm_trace_judge::{JudgeFault, judge};
 use std::alloc::Global;
 
@@ -124,11 +125,11 @@ fn wrong_end(alloc: Global, stated: End, found: Option<End>) -> Result<Answer, N
 }
 
 // What is written where the trace is accepted.
-fn verified_answer(alloc: Global, trace: &Trace) -> Result<Answer, NoMemory>
-    ensures { IfOk result (λ answer. answer ≡ verified_answer (length trace.now.entries) trace.now.end) }
+fn verified_answer(alloc: Global, entries: &[Entry], end: End) -> Result<Answer, NoMemory>
+    ensures { IfOk result (λ answer. answer ≡ verified_answer (length entries.now) end) }
 {
     let mut text = Vec::new(alloc);
-    push_verified(&mut text, trace.entries.len() as u64, trace.end)?;
+    push_verified(&mut text, entries.len() as u64, end)?;
     Ok(Answer {
         text,
         status: Status::Fine,
@@ -137,11 +138,11 @@ fn verified_answer(alloc: Global, trace: &Trace) -> Result<Answer, NoMemory>
 
 // What is written of a trace, by its judgement.
 #[tactic(auto, using(crate::proofs::Answers::accepts, crate::proofs::Answers::names_illegal, crate::proofs::Answers::names_end))]
-fn judgement(alloc: Global, deck: &Deck, trace: &Trace) -> Result<Answer, NoMemory>
-    ensures { IfOk result (IsJudgement deck.now trace.now) }
+fn judgement(alloc: Global, deck: &Deck, entries: &[Entry], end: End) -> Result<Answer, NoMemory>
+    ensures { IfOk result (IsJudgement deck.now (record { entries = entries.now; end = end })) }
 {
-    match judge(alloc, deck, &trace.entries, trace.end) {
-        Ok(()) => verified_answer(alloc, trace),
+    match judge(alloc, deck, entries, end) {
+        Ok(()) => verified_answer(alloc, entries, end),
         Err(JudgeFault::NotLegal { index, wanted }) => not_legal(alloc, deck, index, wanted),
         Err(JudgeFault::WrongEnd { stated, found }) => wrong_end(alloc, stated, found),
         Err(JudgeFault::Memory) => Err(NoMemory),
@@ -155,7 +156,7 @@ fn trace_answer(alloc: Global, deck: &Deck, bytes: &[u8]) -> Result<Answer, NoMe
     ensures { IfOk result (IsOfTrace deck.now bytes.now) }
 {
     match read_trace(alloc, deck, bytes) {
-        Ok(trace) => judgement(alloc, deck, &trace),
+        Ok((entries, end)) => judgement(alloc, deck, &entries, end),
         Err(TraceFault::BadLine { line }) => bad_line(alloc, line),
         Err(TraceFault::Memory) => Err(NoMemory),
     }
@@ -165,7 +166,7 @@ fn trace_answer(alloc: Global, deck: &Deck, bytes: &[u8]) -> Result<Answer, NoMe
 /// trace behind it, else its judgement. The input has at most 16,777,216 bytes.
 #[tactic(auto, using(crate::proofs::Answers::verified_deck, crate::proofs::Answers::verified_fault))]
 pub fn verify_answer(alloc: Global, bytes: &[u8]) -> Result<Answer, NoMemory>
-    requires { length bytes.now ≤ 16777216 }
+    requires { length bytes.now ≤ most_bytes }
     ensures { IfOk result (IsVerifyAnswer bytes.now) }
 {
     let (front, rest) = split(bytes);

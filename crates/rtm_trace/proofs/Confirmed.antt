@@ -19,8 +19,8 @@ use Rattle.rtm_model.specs.declared.entry.Verdict.TheVariants.{Retry, Perc, Stop
 use Rattle.rtm_model.specs.declared.entry.What.{What}
 use Rattle.rtm_model.specs.declared.entry.What.TheVariants.{Exec, Error, Land, Enter, Leave, Arrive, Begin, Release, Done, Purge, MemEnd}
 use Rattle.rtm_model.specs.declared.mark.Mark.{Mark}
-use Rattle.rtm_model.specs.Applies.{IsMark}
-use Rattle.rtm_model.specs.Soundness.{IsPlace, IsReason}
+use Rattle.rtm_model.specs.inner.Applies.{IsMark}
+use Rattle.rtm_model.specs.inner.Soundness.{IsPlace, IsReason}
 use Rattle.rtm_model.specs.Fits.{Fits, WhatFits, VerdictFits}
 use Rattle.rtm_trace.specs.Text.{line_text, end_line}
 use Rattle.rtm_trace.specs.Lines.{IsEntryLine, IsEndLine}
@@ -84,7 +84,7 @@ what_good : (d : DeckView) (said : What) → what_fits d said ≡ true → WhatF
 what_good d (Exec at rc) h = let p = and_parts (is_place d at) (ltb rc 256) h in (place_good d at p.0, ltb-true rc 256 p.1)
 what_good d (Error at mark) h = let p = and_parts (is_place d at) (is_mark mark) h in (place_good d at p.0, mark_good mark p.1)
 what_good d (Land class from mark) h = let p = and_parts (ltb from 4294967296) (is_mark mark) h in (ltb-true from 4294967296 p.0, mark_good mark p.1)
-what_good d (Enter kind reg mark) h = let p = and_parts (ltb reg 4294967296) (is_mark mark) h in (ltb-true reg 4294967296 p.0, mark_good mark p.1)
+what_good d (Enter kind reg mark bare) h = let p = and_parts (ltb reg 4294967296) (is_mark mark) h in (ltb-true reg 4294967296 p.0, mark_good mark p.1)
 what_good d (Leave kind reg verdict logrec dump) h =
     let p = and_parts (ltb reg 4294967296) (verdict_fits d verdict) h in (ltb-true reg 4294967296 p.0, verdict_good d verdict p.1)
 what_good d (Arrive cmd fate) h = ltb-true cmd (length d.commands) h
@@ -99,7 +99,7 @@ good_what : (d : DeckView) (said : What) → WhatFits d said → what_fits d sai
 good_what d (Exec at rc) h = and_from (is_place d at) (ltb rc 256) (good_place d at h.0) (lt-ltb rc 256 h.1)
 good_what d (Error at mark) h = and_from (is_place d at) (is_mark mark) (good_place d at h.0) (good_mark mark h.1)
 good_what d (Land class from mark) h = and_from (ltb from 4294967296) (is_mark mark) (lt-ltb from 4294967296 h.0) (good_mark mark h.1)
-good_what d (Enter kind reg mark) h = and_from (ltb reg 4294967296) (is_mark mark) (lt-ltb reg 4294967296 h.0) (good_mark mark h.1)
+good_what d (Enter kind reg mark bare) h = and_from (ltb reg 4294967296) (is_mark mark) (lt-ltb reg 4294967296 h.0) (good_mark mark h.1)
 good_what d (Leave kind reg verdict logrec dump) h =
     and_from (ltb reg 4294967296) (verdict_fits d verdict) (lt-ltb reg 4294967296 h.0) (good_verdict d verdict h.1)
 good_what d (Arrive cmd fate) h = lt-ltb cmd (length d.commands) h

@@ -1,5 +1,5 @@
 -- The line of an entry that fits a well-formed deck is read as that entry.
-use Rattle.std.proofs.Common.{◌≡◌, ℕ, ◌^◌, ◌<◌, ◌≤◌, Bool, true, List, [], ◌∷◌, ◌++◌, length, drop, Option, Some, refl, ap, ◌∙◌, append_assoc, arith}
+use Rattle.std.proofs.Common.{◌≡◌, ℕ, ◌^◌, ◌<◌, ◌≤◌, Bool, true, false, List, [], ◌∷◌, ◌++◌, length, drop, Option, Some, refl, ap, ◌∙◌, append_assoc, arith}
 use Rattle.std.specs.Prelude.{codes, decimal, IsTrue}
 use Rattle.rtm_codes.specs.declared.code.Code.{Code}
 use Rattle.rtm_codes.specs.Code.{text_of}
@@ -17,13 +17,14 @@ use Rattle.rtm_model.specs.declared.entry.What.{What}
 use Rattle.rtm_model.specs.declared.entry.What.TheVariants.{Exec, Error, Land, Enter, Leave, Arrive, Begin, Release, Done, Purge, MemEnd}
 use Rattle.rtm_model.specs.declared.mark.Mark.{Mark}
 use Rattle.rtm_model.specs.declared.reg.Kind.{Kind}
+use Rattle.rtm_model.specs.inner.Applies.{IsMark}
 use Rattle.rtm_model.specs.Fits.{Fits, WhatFits}
 use Rattle.rtm_trace.specs.Text.{unit_text, place_text, reason_text, flag_text, mark_text, kind_text, class_text, res_text, fate_text, posted_text, verdict_text, what_text, entry_text, line_text}
 use Rattle.rtm_trace.specs.Words.{word_of, rest_of, behind, number_in, names_of, NamesView, kind_in, class_in, res_in, fate_in}
 use Rattle.rtm_trace.specs.Reading.{unit_in, place_in, index_in, flag_in, behind_flag, mark_in, fate_behind, behind_fate, verdict_in, behind_verdict, exec_in, error_in, land_in, enter_in, leave_in, arrive_in, begin_in, release_in, done_in, purge_in, what_in, line_in}
 use Rattle.rtm_trace.proofs.Cuts.{plain, ends_word, word_of-text, rest_of-text}
 use Rattle.rtm_trace.proofs.Numbers.{number_in-decimal, plain_decimal}
-use Rattle.rtm_trace.proofs.Parts.{kind_read, kind_plain, class_read, class_plain, res_read, res_plain, fate_read, fate_plain, leave_tail, leave_end, logrec_read, leave_dump_read, begin_tail, begin_end, dump_read, done_tail, done_end, task_read, step_read, plain_code, code_read, mark_tail, mark_read, unit_plain, unit_read, place_plain, place_read, verdict_read, verdict_behind}
+use Rattle.rtm_trace.proofs.Parts.{kind_read, kind_plain, class_read, class_plain, res_read, res_plain, fate_read, fate_plain, leave_tail, leave_end, logrec_read, leave_dump_read, begin_tail, begin_end, dump_read, done_tail, done_end, task_read, step_read, plain_code, code_read, bare_tail, mark_tail, mark_read, unit_plain, unit_read, place_plain, place_read, verdict_read, verdict_behind}
 
 -- Texts one after the other, each before all that follow.
 in_three : (a b c : List ℕ) → (a ++ b) ++ c ≡ a ++ (b ++ c)
@@ -41,13 +42,18 @@ in_six a b c e f g = in_three (((a ++ b) ++ c) ++ e) f g ∙ in_five a b c e (f 
 in_seven : (a b c e f g h : List ℕ) → (((((a ++ b) ++ c) ++ e) ++ f) ++ g) ++ h ≡ a ++ (b ++ (c ++ (e ++ (f ++ (g ++ h)))))
 in_seven a b c e f g h = in_three ((((a ++ b) ++ c) ++ e) ++ f) g h ∙ in_six a b c e f (g ++ h)
 
-in_nine : (a b c e f g h i j : List ℕ) → (((((((a ++ b) ++ c) ++ e) ++ f) ++ g) ++ h) ++ i) ++ j ≡ a ++ (b ++ (c ++ (e ++ (f ++ (g ++ (h ++ (i ++ j)))))))
-in_nine a b c e f g h i j =
-    in_three ((((((a ++ b) ++ c) ++ e) ++ f) ++ g) ++ h) i j ∙ (in_three (((((a ++ b) ++ c) ++ e) ++ f) ++ g) h (i ++ j) ∙ in_seven a b c e f g (h ++ (i ++ j)))
+in_eight : (a b c e f g h i : List ℕ) → ((((((a ++ b) ++ c) ++ e) ++ f) ++ g) ++ h) ++ i ≡ a ++ (b ++ (c ++ (e ++ (f ++ (g ++ (h ++ i))))))
+in_eight a b c e f g h i = in_three (((((a ++ b) ++ c) ++ e) ++ f) ++ g) h i ∙ in_seven a b c e f g (h ++ i)
 
--- a mark up to the end of the line
-mark_line : (mark : Mark) → mark_text mark ++ 10 ∷ [] ≡ text_of mark.code ++ mark_tail mark
-mark_line mark = in_six (text_of mark.code) (reason_text mark.reason) (flag_text mark.clup (codes " CLUP")) (flag_text mark.perc (codes " PERC")) (flag_text mark.staf (codes " STAF")) (10 ∷ [])
+in_nine : (a b c e f g h i j : List ℕ) → (((((((a ++ b) ++ c) ++ e) ++ f) ++ g) ++ h) ++ i) ++ j ≡ a ++ (b ++ (c ++ (e ++ (f ++ (g ++ (h ++ (i ++ j)))))))
+in_nine a b c e f g h i j = in_three ((((((a ++ b) ++ c) ++ e) ++ f) ++ g) ++ h) i j ∙ in_eight a b c e f g h (i ++ j)
+
+-- a mark with what stands behind it, up to the end of the line
+mark_line : (mark : Mark) (bare : Bool) → mark_text mark ++ bare_tail bare ≡ text_of mark.code ++ mark_tail mark bare
+mark_line mark bare = in_six (text_of mark.code) (reason_text mark.reason) (flag_text mark.clup (codes " CLUP")) (flag_text mark.perc (codes " PERC")) (flag_text mark.staf (codes " STAF")) (bare_tail bare)
+
+mark_found : (mark : Mark) (bare : Bool) → IsMark mark → mark_in (mark_text mark ++ bare_tail bare) ≡ Some (mark, bare)
+mark_found mark bare h = ap mark_in (mark_line mark bare) ∙ mark_read mark bare h
 
 -- a word at the front of a line, and the rest
 record Cut (line first behind : List ℕ) : Type 0 where
@@ -69,17 +75,17 @@ exec_by : (names : NamesView) (line word rest : List ℕ) (at : Place) (rc : ℕ
     → exec_in names line ≡ Some (Exec at rc)
 exec_by names line word rest at rc c e f = rw (c.word, c.rest, e, f) refl
 
-error_by : (names : NamesView) (line word rest : List ℕ) (at : Place) (mark : Mark) → Cut line word rest → place_in names word ≡ Some at → mark_in rest ≡ Some mark
+error_by : (names : NamesView) (line word rest : List ℕ) (at : Place) (mark : Mark) → Cut line word rest → place_in names word ≡ Some at → mark_in rest ≡ Some (mark, false)
     → error_in names line ≡ Some (Error at mark)
 error_by names line word rest at mark c e f = rw (c.word, c.rest, e, f) refl
 
-land_by : (line word rest other more : List ℕ) (class : Class) (from : ℕ) (mark : Mark) → Cut line word rest → Cut rest other more → class_in word ≡ Some class → index_in other ≡ Some from → mark_in more ≡ Some mark
+land_by : (line word rest other more : List ℕ) (class : Class) (from : ℕ) (mark : Mark) → Cut line word rest → Cut rest other more → class_in word ≡ Some class → index_in other ≡ Some from → mark_in more ≡ Some (mark, false)
     → land_in line ≡ Some (Land class from mark)
 land_by line word rest other more class from mark c k e f g = rw (c.word, c.rest, k.word, k.rest, e, f, g) refl
 
-enter_by : (line word rest other more : List ℕ) (kind : Kind) (reg : ℕ) (mark : Mark) → Cut line word rest → Cut rest other more → kind_in word ≡ Some kind → index_in other ≡ Some reg → mark_in more ≡ Some mark
-    → enter_in line ≡ Some (Enter kind reg mark)
-enter_by line word rest other more kind reg mark c k e f g = rw (c.word, c.rest, k.word, k.rest, e, f, g) refl
+enter_by : (line word rest other more : List ℕ) (kind : Kind) (reg : ℕ) (mark : Mark) (bare : Bool) → Cut line word rest → Cut rest other more → kind_in word ≡ Some kind → index_in other ≡ Some reg → mark_in more ≡ Some (mark, bare)
+    → enter_in line ≡ Some (Enter kind reg mark bare)
+enter_by line word rest other more kind reg mark bare c k e f g = rw (c.word, c.rest, k.word, k.rest, e, f, g) refl
 
 leave_by : (names : NamesView) (line word rest other more flags : List ℕ) (kind : Kind) (reg : ℕ) (verdict : Verdict) (logrec dump : Bool) → Cut line word rest → Cut rest other more
     → kind_in word ≡ Some kind → index_in other ≡ Some reg → verdict_in names more ≡ Some verdict → behind_verdict more ≡ flags
@@ -128,7 +134,7 @@ module _ (d : DeckView) (w : IsTrue (is_well_formed d)) where
   what_read (Error at mark) h =
       ap (what_in (names_of d) (length d.units)) (in_five (codes "ERROR ") (place_text d at) (codes " ") (mark_text mark) (10 ∷ []))
       ∙ error_by (names_of d) _ (place_text d at) (mark_text mark ++ 10 ∷ []) at mark
-      (cut_blank (place_text d at) (mark_text mark ++ 10 ∷ []) (place_plain d w at h.0)) (place_read d w at h.0) (ap mark_in (mark_line mark) ∙ mark_read mark h.1)
+      (cut_blank (place_text d at) (mark_text mark ++ 10 ∷ []) (place_plain d w at h.0)) (place_read d w at h.0) (mark_found mark false h.1)
   what_read (Land class from mark) h =
       let small : from < 4294967296 = h.0 in
       let more = mark_text mark ++ 10 ∷ [] in
@@ -136,15 +142,15 @@ module _ (d : DeckView) (w : IsTrue (is_well_formed d)) where
       ap (what_in (names_of d) (length d.units)) (in_seven (codes "LAND ") (class_text class) (codes " ") (decimal from) (codes " ") (mark_text mark) (10 ∷ []))
       ∙ land_by _ (class_text class) rest (decimal from) more class from mark
       (cut_blank (class_text class) rest (class_plain class)) (cut_blank (decimal from) more (plain_decimal from (index_wide from small)))
-      (class_read class) (number_in-decimal 4294967296 from (index_wide from small) small) (ap mark_in (mark_line mark) ∙ mark_read mark h.1)
-  what_read (Enter kind reg mark) h =
+      (class_read class) (number_in-decimal 4294967296 from (index_wide from small) small) (mark_found mark false h.1)
+  what_read (Enter kind reg mark bare) h =
       let small : reg < 4294967296 = h.0 in
-      let more = mark_text mark ++ 10 ∷ [] in
+      let more = mark_text mark ++ bare_tail bare in
       let rest = decimal reg ++ 32 ∷ more in
-      ap (what_in (names_of d) (length d.units)) (in_seven (codes "ENTER ") (kind_text kind) (codes " ") (decimal reg) (codes " ") (mark_text mark) (10 ∷ []))
-      ∙ enter_by _ (kind_text kind) rest (decimal reg) more kind reg mark
+      ap (what_in (names_of d) (length d.units)) (in_eight (codes "ENTER ") (kind_text kind) (codes " ") (decimal reg) (codes " ") (mark_text mark) (flag_text bare (codes " NOSDWA")) (10 ∷ []))
+      ∙ enter_by _ (kind_text kind) rest (decimal reg) more kind reg mark bare
       (cut_blank (kind_text kind) rest (kind_plain kind)) (cut_blank (decimal reg) more (plain_decimal reg (index_wide reg small)))
-      (kind_read kind) (number_in-decimal 4294967296 reg (index_wide reg small) small) (ap mark_in (mark_line mark) ∙ mark_read mark h.1)
+      (kind_read kind) (number_in-decimal 4294967296 reg (index_wide reg small) small) (mark_found mark bare h.1)
   what_read (Leave kind reg verdict logrec dump) h =
       let small : reg < 4294967296 = h.0 in
       let tail = leave_tail logrec dump in

@@ -25,8 +25,8 @@ use Rattle.rtm_model.specs.declared.entry.Verdict.TheVariants.{Retry, Perc, Stop
 use Rattle.rtm_model.specs.declared.mark.Mark.{Mark}
 use Rattle.rtm_model.specs.declared.reg.Kind.{Kind}
 use Rattle.rtm_model.specs.declared.reg.Kind.TheVariants as kind
-use Rattle.rtm_model.specs.Applies.{IsMark}
-use Rattle.rtm_model.specs.Soundness.{IsPlace}
+use Rattle.rtm_model.specs.inner.Applies.{IsMark}
+use Rattle.rtm_model.specs.inner.Soundness.{IsPlace}
 use Rattle.rtm_model.specs.Fits.{VerdictFits}
 use Rattle.rtm_trace.specs.Text.{unit_text, place_text, reason_text, reason_digits, flag_text, kind_text, class_text, res_text, fate_text, posted_text, verdict_text}
 use Rattle.rtm_trace.specs.Words.{is_inner, word_of, rest_of, names_of, kind_in, class_in, res_in, fate_in, NamesView}
@@ -87,37 +87,58 @@ fate_plain fate.Queued = refl
 fate_plain fate.Merged = refl
 fate_plain fate.Late = refl
 
+-- what stands behind a mark, up to the end of the line
+abbrev pub bare_tail : Bool → List ℕ
+bare_tail bare = flag_text bare (codes " NOSDWA") ++ 10 ∷ []
+
 -- the flags of a mark, up to the end of the line
-abbrev pub flags_tail : Bool → Bool → Bool → List ℕ
-flags_tail clup perc staf = flag_text clup (codes " CLUP") ++ (flag_text perc (codes " PERC") ++ (flag_text staf (codes " STAF") ++ 10 ∷ []))
+abbrev pub flags_tail : Bool → Bool → Bool → Bool → List ℕ
+flags_tail clup perc staf bare = flag_text clup (codes " CLUP") ++ (flag_text perc (codes " PERC") ++ (flag_text staf (codes " STAF") ++ bare_tail bare))
 
-pub flags_end : (clup perc staf : Bool) → ends_word (flags_tail clup perc staf) ≡ true
-flags_end true perc staf = refl
-flags_end false true staf = refl
-flags_end false false true = refl
-flags_end false false false = refl
+pub flags_end : (clup perc staf bare : Bool) → ends_word (flags_tail clup perc staf bare) ≡ true
+flags_end true perc staf bare = refl
+flags_end false true staf bare = refl
+flags_end false false true bare = refl
+flags_end false false false true = refl
+flags_end false false false false = refl
 
-pub flags_read : (code : Code) (reason : Option ℕ) (clup perc staf : Bool)
-    → mark_of_flags code reason (drop 1 (flags_tail clup perc staf)) ≡ record { code = code; reason = reason; clup = clup; perc = perc; staf = staf }
-flags_read code reason true true true = refl
-flags_read code reason true true false = refl
-flags_read code reason true false true = refl
-flags_read code reason true false false = refl
-flags_read code reason false true true = refl
-flags_read code reason false true false = refl
-flags_read code reason false false true = refl
-flags_read code reason false false false = refl
+pub flags_read : (code : Code) (reason : Option ℕ) (clup perc staf bare : Bool)
+    → mark_of_flags code reason (drop 1 (flags_tail clup perc staf bare)) ≡ (record { code = code; reason = reason; clup = clup; perc = perc; staf = staf }, bare)
+flags_read code reason true true true true = refl
+flags_read code reason true true true false = refl
+flags_read code reason true true false true = refl
+flags_read code reason true true false false = refl
+flags_read code reason true false true true = refl
+flags_read code reason true false true false = refl
+flags_read code reason true false false true = refl
+flags_read code reason true false false false = refl
+flags_read code reason false true true true = refl
+flags_read code reason false true true false = refl
+flags_read code reason false true false true = refl
+flags_read code reason false true false false = refl
+flags_read code reason false false true true = refl
+flags_read code reason false false true false = refl
+flags_read code reason false false false true = refl
+flags_read code reason false false false false = refl
 
 -- no flag is a reason
-pub no_reason : (clup perc staf : Bool) → reason_in (word_of (drop 1 (flags_tail clup perc staf))) ≡ None
-no_reason true true true = refl
-no_reason true true false = refl
-no_reason true false true = refl
-no_reason true false false = refl
-no_reason false true true = refl
-no_reason false true false = refl
-no_reason false false true = refl
-no_reason false false false = refl
+pub no_reason : (clup perc staf bare : Bool) → reason_in (word_of (drop 1 (flags_tail clup perc staf bare))) ≡ None
+no_reason true true true true = refl
+no_reason true true true false = refl
+no_reason true true false true = refl
+no_reason true true false false = refl
+no_reason true false true true = refl
+no_reason true false true false = refl
+no_reason true false false true = refl
+no_reason true false false false = refl
+no_reason false true true true = refl
+no_reason false true true false = refl
+no_reason false true false true = refl
+no_reason false true false false = refl
+no_reason false false true true = refl
+no_reason false false true false = refl
+no_reason false false false true = refl
+no_reason false false false false = refl
 
 -- the flags of a routine's end
 abbrev pub leave_tail : Bool → Bool → List ℕ
@@ -208,41 +229,41 @@ plain_code code h = visible_plain (text_of code) (IsVisible-spelled (text_of cod
 pub code_read : (code : Code) → IsInRange code → code_in (text_of code) ≡ Some code
 code_read code h = code_in-spelled (text_of code) code (Spells-text_of code h)
 
--- marks
-abbrev pub mark_tail : Mark → List ℕ
-mark_tail mark = reason_text mark.reason ++ flags_tail mark.clup mark.perc mark.staf
+-- marks, with what stands behind them
+abbrev pub mark_tail : Mark → Bool → List ℕ
+mark_tail mark bare = reason_text mark.reason ++ flags_tail mark.clup mark.perc mark.staf bare
 
-reason_end : (reason : Option ℕ) (clup perc staf : Bool) → ends_word (reason_text reason ++ flags_tail clup perc staf) ≡ true
-reason_end None clup perc staf = flags_end clup perc staf
-reason_end (Some n) clup perc staf = refl
+reason_end : (reason : Option ℕ) (clup perc staf bare : Bool) → ends_word (reason_text reason ++ flags_tail clup perc staf bare) ≡ true
+reason_end None clup perc staf bare = flags_end clup perc staf bare
+reason_end (Some n) clup perc staf bare = refl
 
-with_reason : (code : Code) (found reason : Option ℕ) (line : List ℕ) (mark : Mark) → found ≡ reason → mark_behind_reason code reason line ≡ mark → mark_behind_reason code found line ≡ mark
+with_reason : (code : Code) (found reason : Option ℕ) (line : List ℕ) (mark : Mark × Bool) → found ≡ reason → mark_behind_reason code reason line ≡ mark → mark_behind_reason code found line ≡ mark
 with_reason code found reason line mark e f = rw e f
 
-reason_read : (code : Code) (reason : Option ℕ) (clup perc staf : Bool) → ((n : ℕ) → reason ≡ Some n → n < 4294967296)
-    → mark_behind_code code (drop 1 (reason_text reason ++ flags_tail clup perc staf)) ≡ record { code = code; reason = reason; clup = clup; perc = perc; staf = staf }
-reason_read code None clup perc staf small =
-    with_reason code _ None (drop 1 (flags_tail clup perc staf)) _ (no_reason clup perc staf) (flags_read code None clup perc staf)
-reason_read code (Some n) clup perc staf small =
-    let tail = flags_tail clup perc staf in
-    let end = flags_end clup perc staf in
+reason_read : (code : Code) (reason : Option ℕ) (clup perc staf bare : Bool) → ((n : ℕ) → reason ≡ Some n → n < 4294967296)
+    → mark_behind_code code (drop 1 (reason_text reason ++ flags_tail clup perc staf bare)) ≡ (record { code = code; reason = reason; clup = clup; perc = perc; staf = staf }, bare)
+reason_read code None clup perc staf bare small =
+    with_reason code _ None (drop 1 (flags_tail clup perc staf bare)) _ (no_reason clup perc staf bare) (flags_read code None clup perc staf bare)
+reason_read code (Some n) clup perc staf bare small =
+    let tail = flags_tail clup perc staf bare in
+    let end = flags_end clup perc staf bare in
     let digits = reason_digits n in
     let word : word_of (digits ++ tail) ≡ digits = word_of-text digits tail (plain_reason n) end in
     let rest : rest_of (digits ++ tail) ≡ drop 1 tail = rest_of-text digits tail (plain_reason n) end in
     let found : reason_in (codes "REASON=" ++ word_of (digits ++ tail)) ≡ Some n = rw word (number_in-reason n (small n refl)) in
     with_reason code _ (Some n) (codes "REASON=" ++ (digits ++ tail)) _ found
-    (ap (mark_of_flags code (Some n)) rest ∙ flags_read code (Some n) clup perc staf)
+    (ap (mark_of_flags code (Some n)) rest ∙ flags_read code (Some n) clup perc staf bare)
 
 reason_small : (mark : Mark) → IsMark mark → (n : ℕ) → mark.reason ≡ Some n → n < 4294967296
 reason_small mark h n e = let r = h.reason in let s = rw e at r in s
 
-pub mark_read : (mark : Mark) → IsMark mark → mark_in (text_of mark.code ++ mark_tail mark) ≡ Some mark
-mark_read mark h =
-    let tail = mark_tail mark in
-    let end = reason_end mark.reason mark.clup mark.perc mark.staf in
+pub mark_read : (mark : Mark) (bare : Bool) → IsMark mark → mark_in (text_of mark.code ++ mark_tail mark bare) ≡ Some (mark, bare)
+mark_read mark bare h =
+    let tail = mark_tail mark bare in
+    let end = reason_end mark.reason mark.clup mark.perc mark.staf bare in
     let word = word_of-text (text_of mark.code) tail (plain_code mark.code h.code) end in
     let rest = rest_of-text (text_of mark.code) tail (plain_code mark.code h.code) end in
-    rw (word, rest, code_read mark.code h.code) (ap Some (reason_read mark.code mark.reason mark.clup mark.perc mark.staf (reason_small mark h)))
+    rw (word, rest, code_read mark.code h.code) (ap Some (reason_read mark.code mark.reason mark.clup mark.perc mark.staf bare (reason_small mark h)))
 
 -- a verdict without a place
 verdict_by : (names : NamesView) (line word : List ℕ) (v : Verdict) → word_of line ≡ word → bytes_eq word (codes "RETRY") ≡ false → plain_verdict word ≡ Some v → verdict_in names line ≡ Some v

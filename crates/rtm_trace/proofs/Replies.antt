@@ -7,35 +7,34 @@ use Rattle.rtm_deck_items.specs.WellFormed.{is_well_formed}
 use Rattle.rtm_model.specs.declared.entry.End.{End}
 use Rattle.rtm_model.specs.declared.entry.Entry.{Entry}
 use Rattle.rtm_model.specs.Fits.{Fits}
-use Rattle.rtm_trace.specs.declared.fault.TraceFault.{TraceFault}
 use Rattle.rtm_trace.specs.declared.fault.TraceFault.TheVariants.{Memory, BadLine}
 use Rattle.rtm_trace.specs.Text.{line_text, trace_text}
-use Rattle.rtm_trace.specs.View.{TraceView}
+use Rattle.rtm_trace.specs.View.{TraceView, trace_of}
 use Rattle.rtm_trace.specs.Lines.{IsTraceOf, IsFirstBadLine, text_lines}
-use Rattle.rtm_trace.specs.Answer.{IsFaultOf, IsThatTrace, IsThatLine, Gives}
+use Rattle.rtm_trace.specs.Answer.{Answered, IsFaultOf, IsThatTrace, IsThatLine, Gives}
 use Rattle.rtm_trace.specs.Reading.{read_lines}
 use Rattle.rtm_trace.proofs.Shapes.{line_short}
 use Rattle.rtm_trace.proofs.TraceLaws.{trace_read, read_trace_of, read_bad_line, bad_line_read, one_trace, same_Ok, same_Err}
 
 module _ (d : DeckView) (w : IsTrue (is_well_formed d)) (bytes : List ℕ) (small : length bytes < 2 ^ 64) where
-  pub reply_found : (r : Result TraceView TraceFault) → Gives r (read_lines d (text_lines bytes)) → IfOk r (IsTraceOf d bytes)
-  reply_found (Ok t) g = read_trace_of d w bytes t g
+  pub reply_found : (r : Answered) → Gives r (read_lines d (text_lines bytes)) → IfOk r (λ read. IsTraceOf d bytes (trace_of read))
+  reply_found (Ok read) g = read_trace_of d w bytes (trace_of read) g
   reply_found (Err f) g = tt
 
-  pub reply_refused : (r : Result TraceView TraceFault) → Gives r (read_lines d (text_lines bytes)) → IfErr r (IsFaultOf d bytes)
-  reply_refused (Ok t) g = tt
+  pub reply_refused : (r : Answered) → Gives r (read_lines d (text_lines bytes)) → IfErr r (IsFaultOf d bytes)
+  reply_refused (Ok read) g = tt
   reply_refused (Err Memory) g = tt
   reply_refused (Err (BadLine line)) g = read_bad_line d w bytes line small g
 
-  pub reply_trace : (r : Result TraceView TraceFault) → Gives r (read_lines d (text_lines bytes)) → (t : TraceView) → IsTraceOf d bytes t → IsThatTrace t r
-  reply_trace (Ok u) g t h = same_Ok u t (sym g ∙ trace_read d w bytes t small h)
+  pub reply_trace : (r : Answered) → Gives r (read_lines d (text_lines bytes)) → (t : TraceView) → IsTraceOf d bytes t → IsThatTrace t r
+  reply_trace (Ok read) g t h = same_Ok (trace_of read) t (sym g ∙ trace_read d w bytes t small h)
   reply_trace (Err Memory) g t h = tt
   reply_trace (Err (BadLine line)) g t h =
       let clash : Err line ≡ Ok t = sym g ∙ trace_read d w bytes t small h in absurd cc
 
-  pub reply_line : (r : Result TraceView TraceFault) → Gives r (read_lines d (text_lines bytes)) → (line : ℕ) → IsFirstBadLine d bytes line → IsThatLine line r
-  reply_line (Ok t) g line h =
-      let clash : Ok t ≡ Err line = sym g ∙ bad_line_read d w bytes line small h in absurd cc
+  pub reply_line : (r : Answered) → Gives r (read_lines d (text_lines bytes)) → (line : ℕ) → IsFirstBadLine d bytes line → IsThatLine line r
+  reply_line (Ok read) g line h =
+      let clash : Ok (trace_of read) ≡ Err line = sym g ∙ bad_line_read d w bytes line small h in absurd cc
   reply_line (Err Memory) g line h = tt
   reply_line (Err (BadLine other)) g line h =
       same_Err other line (sym g ∙ bad_line_read d w bytes line small h)

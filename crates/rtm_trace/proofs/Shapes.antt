@@ -27,8 +27,8 @@ use Rattle.rtm_model.specs.declared.entry.What.TheVariants.{Exec, Error, Land, E
 use Rattle.rtm_model.specs.declared.mark.Mark.{Mark}
 use Rattle.rtm_model.specs.declared.reg.Kind.{Kind}
 use Rattle.rtm_model.specs.declared.reg.Kind.TheVariants as kind
-use Rattle.rtm_model.specs.Applies.{IsMark}
-use Rattle.rtm_model.specs.Soundness.{IsPlace}
+use Rattle.rtm_model.specs.inner.Applies.{IsMark}
+use Rattle.rtm_model.specs.inner.Soundness.{IsPlace}
 use Rattle.rtm_model.specs.Fits.{Fits, WhatFits, VerdictFits}
 use Rattle.rtm_deck_items.proofs.FormFacts.{limits}
 use Rattle.rtm_trace.specs.Text.{unit_text, place_text, reason_text, reason_digits, flag_text, mark_text, kind_text, class_text, res_text, fate_text, posted_text, verdict_text, what_text, entry_text, line_text}
@@ -178,11 +178,13 @@ module _ (d : DeckView) (w : IsTrue (is_well_formed d)) where
       (join _ _ 22 1 (join _ _ 12 10 (join _ _ 11 1 (join _ _ 5 6 (literal (codes "LAND ") 5 refl refl) (class_written class)) blank_written) (index_written from h.0)) blank_written)
       (mark_written mark h.1))
       (omega arith)
-  what_written (Enter kind reg mark) h =
-      wider _ 59 67
+  what_written (Enter kind reg mark bare) h =
+      wider _ 66 67
+      (join _ _ 59 7
       (join _ _ 23 36
       (join _ _ 22 1 (join _ _ 12 10 (join _ _ 11 1 (join _ _ 6 5 (literal (codes "ENTER ") 6 refl refl) (kind_written kind)) blank_written) (index_written reg h.0)) blank_written)
       (mark_written mark h.1))
+      (flag_written bare (codes " NOSDWA") 7 (literal (codes " NOSDWA") 7 refl refl)))
       (omega arith)
   what_written (Leave kind reg verdict logrec dump) h =
       wider _ 55 67

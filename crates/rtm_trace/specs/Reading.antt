@@ -47,23 +47,27 @@ abbrev pub reason_in : List ℕ → Option ℕ
 reason_in word =
     if bytes_eq (before 61 word) (codes "REASON") then number_in 16 4294967296 (behind 61 word) else None
 
-abbrev pub mark_of_flags : Code → Option ℕ → List ℕ → Mark
-mark_of_flags code reason line = let perc = behind_flag (codes "CLUP") line in record {
-  code = code;
-  reason = reason;
-  clup = flag_in (codes "CLUP") line;
-  perc = flag_in (codes "PERC") perc;
-  staf = flag_in (codes "STAF") (behind_flag (codes "PERC") perc);
-}
+-- a mark, and whether the word that tells of no SDWA stands behind it
+abbrev pub mark_of_flags : Code → Option ℕ → List ℕ → Mark × Bool
+mark_of_flags code reason line = let perc = behind_flag (codes "CLUP") line in let staf = behind_flag (codes "PERC") perc in (
+  record {
+    code = code;
+    reason = reason;
+    clup = flag_in (codes "CLUP") line;
+    perc = flag_in (codes "PERC") perc;
+    staf = flag_in (codes "STAF") staf;
+  },
+  flag_in (codes "NOSDWA") (behind_flag (codes "STAF") staf),
+)
 
-abbrev pub mark_behind_reason : Code → Option ℕ → List ℕ → Mark
+abbrev pub mark_behind_reason : Code → Option ℕ → List ℕ → Mark × Bool
 mark_behind_reason code None line = mark_of_flags code None line
 mark_behind_reason code (Some reason) line = mark_of_flags code (Some reason) (rest_of line)
 
-abbrev pub mark_behind_code : Code → List ℕ → Mark
+abbrev pub mark_behind_code : Code → List ℕ → Mark × Bool
 mark_behind_code code line = mark_behind_reason code (reason_in (word_of line)) line
 
-abbrev pub mark_in : List ℕ → Option Mark
+abbrev pub mark_in : List ℕ → Option (Mark × Bool)
 mark_in line = option_map (λ code. mark_behind_code code (rest_of line)) (code_in (word_of line))
 
 -- the fate that a word tells behind that key
@@ -96,19 +100,19 @@ exec_in names line = option_and_then
     (place_in names (word_of line))
 
 abbrev pub error_in : NamesView → List ℕ → Option What
-error_in names line = option_and_then (λ at. option_map (λ mark. Error at mark) (mark_in (rest_of line))) (place_in names (word_of line))
+error_in names line = option_and_then (λ at. option_map (λ found. Error at found.0) (mark_in (rest_of line))) (place_in names (word_of line))
 
 abbrev pub land_in : List ℕ → Option What
 land_in line = option_and_then
     (λ class. option_and_then
-    (λ from. option_map (λ mark. Land class from mark) (mark_in (rest_of (rest_of line))))
+    (λ from. option_map (λ found. Land class from found.0) (mark_in (rest_of (rest_of line))))
     (index_in (word_of (rest_of line))))
     (class_in (word_of line))
 
 abbrev pub enter_in : List ℕ → Option What
 enter_in line = option_and_then
     (λ kind. option_and_then
-    (λ reg. option_map (λ mark. Enter kind reg mark) (mark_in (rest_of (rest_of line))))
+    (λ reg. option_map (λ found. Enter kind reg found.0 found.1) (mark_in (rest_of (rest_of line))))
     (index_in (word_of (rest_of line))))
     (kind_in (word_of line))
 
@@ -190,7 +194,7 @@ abbrev pub what_fits : DeckView → What → Bool
 what_fits d (Exec at rc) = is_place d at && nat_lt rc 256
 what_fits d (Error at mark) = is_place d at && is_mark mark
 what_fits d (Land class from mark) = nat_lt from 4294967296 && is_mark mark
-what_fits d (Enter kind reg mark) = nat_lt reg 4294967296 && is_mark mark
+what_fits d (Enter kind reg mark bare) = nat_lt reg 4294967296 && is_mark mark
 what_fits d (Leave kind reg verdict logrec dump) = nat_lt reg 4294967296 && verdict_fits d verdict
 what_fits d (Arrive cmd _) = nat_lt cmd (length d.commands)
 what_fits d (Begin code dump) = in_range code

@@ -97,8 +97,10 @@ verdict_text d Over = codes "OVER"
 abbrev pub land_text : Class → ℕ → Mark → List ℕ
 land_text class from mark = codes "LAND " ++ class_text class ++ codes " " ++ decimal from ++ codes " " ++ mark_text mark
 
-abbrev pub enter_text : Kind → ℕ → Mark → List ℕ
-enter_text kind reg mark = codes "ENTER " ++ kind_text kind ++ codes " " ++ decimal reg ++ codes " " ++ mark_text mark
+-- a routine that is entered bare is given no SDWA (this profile)
+abbrev pub enter_text : Kind → ℕ → Mark → Bool → List ℕ
+enter_text kind reg mark bare =
+    codes "ENTER " ++ kind_text kind ++ codes " " ++ decimal reg ++ codes " " ++ mark_text mark ++ flag_text bare (codes " NOSDWA")
 
 abbrev pub left_text : DeckView → Kind → ℕ → Verdict → List ℕ
 left_text d kind reg verdict = codes "LEAVE " ++ kind_text kind ++ codes " " ++ decimal reg ++ codes " " ++ verdict_text d verdict
@@ -117,7 +119,7 @@ abbrev pub what_text : DeckView → What → List ℕ
 what_text d (Exec at rc) = codes "EXEC " ++ place_text d at ++ codes " RC=" ++ decimal rc
 what_text d (Error at mark) = codes "ERROR " ++ place_text d at ++ codes " " ++ mark_text mark
 what_text d (Land class from mark) = land_text class from mark
-what_text d (Enter kind reg mark) = enter_text kind reg mark
+what_text d (Enter kind reg mark bare) = enter_text kind reg mark bare
 what_text d (Leave kind reg verdict logrec dump) = left_text d kind reg verdict ++ flag_text logrec (codes " LOGREC") ++ flag_text dump (codes " DUMP")
 what_text d (Arrive cmd fate) = arrive_text cmd fate
 what_text d (Begin code dump) = begin_text code dump

@@ -68,22 +68,25 @@ fn reason_in(word: &[u8]) -> Option<u32>
     Some(reason as u32)
 }
 
-fn mark_of_flags(code: Code, reason: Option<u32>, line: &[u8]) -> Mark
+// A mark, and whether the word that tells of no SDWA stands behind it.
+fn mark_of_flags(code: Code, reason: Option<u32>, line: &[u8]) -> (Mark, bool)
     ensures { result ≡ mark_of_flags code reason line.now }
 {
     let (clup, rest) = cut_flag(line, b"CLUP");
     let (perc, rest) = cut_flag(rest, b"PERC");
-    let (staf, _) = cut_flag(rest, b"STAF");
-    Mark {
+    let (staf, rest) = cut_flag(rest, b"STAF");
+    let (bare, _) = cut_flag(rest, b"NOSDWA");
+    let mark = Mark {
         code,
         reason,
         clup,
         perc,
         staf,
-    }
+    };
+    (mark, bare)
 }
 
-fn mark_behind_code(code: Code, line: &[u8]) -> Mark
+fn mark_behind_code(code: Code, line: &[u8]) -> (Mark, bool)
     ensures { result ≡ mark_behind_code code line.now }
 {
     let (word, rest) = cut_word(line);
@@ -93,7 +96,7 @@ fn mark_behind_code(code: Code, line: &[u8]) -> Mark
     }
 }
 
-fn mark_in(line: &[u8]) -> Option<Mark>
+fn mark_in(line: &[u8]) -> Option<(Mark, bool)>
     ensures { result ≡ mark_in line.now }
 {
     let (word, rest) = cut_word(line);
@@ -182,7 +185,7 @@ fn error_in(names: &Names, line: &[u8]) -> Option<What>
 {
     let (word, rest) = cut_word(line);
     let at = place_in(names, word)?;
-    let mark = mark_in(rest)?;
+    let (mark, _) = mark_in(rest)?;
     Some(What::Error { at, mark })
 }
 
@@ -193,7 +196,7 @@ fn land_in(line: &[u8]) -> Option<What>
     let class = class_in(word)?;
     let (word, rest) = cut_word(rest);
     let from = index_in(word)?;
-    let mark = mark_in(rest)?;
+    let (mark, _) = mark_in(rest)?;
     Some(What::Land { class, from, mark })
 }
 
@@ -204,8 +207,13 @@ fn enter_in(line: &[u8]) -> Option<What>
     let kind = kind_in(word)?;
     let (word, rest) = cut_word(rest);
     let reg = index_in(word)?;
-    let mark = mark_in(rest)?;
-    Some(What::Enter { kind, reg, mark })
+    let (mark, bare) = mark_in(rest)?;
+    Some(What::Enter {
+        kind,
+        reg,
+        mark,
+        bare,
+    })
 }
 
 fn leave_in(names: &Names, line: &[u8]) -> Option<What>

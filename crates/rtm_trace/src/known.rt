@@ -65,7 +65,8 @@ pub(crate) fn recall(places: &Places<'_>, place: usize, bytes: &[u8]) -> Option<
 #[tactic(auto, using(crate::proofs::Remembered::all_set))]
 pub(crate) fn remember<'a>(places: &mut Places<'a>, place: usize, bytes: &'a [u8], what: What)
     requires { place < 256 }
-    ensures { (d : DeckView) → AreKnown d places.old → IsSaid d bytes.now what → AreKnown d places.new }
+    ensures { (d : DeckView) → AreKnown d places.old → IsSaid d bytes.now what
+        → AreKnown d places.new }
 {
     places[place] = Some(Known { bytes, what });
 }

@@ -10,10 +10,12 @@ mod laws;
 mod names;
 pub mod push;
 mod read;
+mod send;
 mod text;
 mod word;
 
 pub use fault::TraceFault;
 pub use laws::{each_input_is_a_trace_or_has_a_bad_line, lines_are_short, texts_are_one_to_one};
-pub use read::{Trace, read_trace};
+pub use read::read_trace;
+pub use send::types_are_send;
 pub use text::{end_word, push_entry, trace_text};

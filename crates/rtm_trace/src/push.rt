@@ -1,28 +1,14 @@
 //! Text at the end of a buffer.
 
-ghost use Rattle.std.specs.Prelude.{◌≡◌, ◌++◌, ◌<◌, ◌+◌, length, OnOk, decimal};
-ghost use Rattle.rtm_codes.specs.Code.{IsInRange, text_of, digit_char};
+ghost use Rattle.std.specs.Prelude.{◌≡◌, ◌++◌, length, OnOk};
+ghost use Rattle.rtm_codes.specs.Code.{IsInRange, text_of};
 ghost use Rattle.rtm_deck_operands.specs.Name.{trimmed_text};
 ghost use Rattle.rtm_trace.specs.Text.{reason_digits, flag_text};
 
-use itoa::Buffer;
 use rtm_codes::{Code, NoMemory, code_text};
 use rtm_deck_items::Name;
-
-/// Puts the bytes at the end.
-pub fn bytes(out: &mut Vec<u8>, text: &[u8]) -> Result<(), NoMemory>
-    ensures { OnOk result (out.new.items ≡ out.old.items ++ text.now) }
-{
-    Ok(out.extend_from_slice(text)?)
-}
-
-/// Puts the number in decimal digits.
-pub fn number(out: &mut Vec<u8>, n: u64) -> Result<(), NoMemory>
-    ensures { OnOk result (out.new.items ≡ out.old.items ++ decimal n) }
-{
-    let mut buffer = Buffer::new();
-    bytes(out, buffer.format(n).as_bytes())
-}
+use rtm_text::character;
+pub use rtm_text::{push_bytes as bytes, push_decimal as number};
 
 /// Puts the text of a completion code.
 pub fn code(out: &mut Vec<u8>, code: Code) -> Result<(), NoMemory>
@@ -40,31 +26,20 @@ pub fn flag(out: &mut Vec<u8>, flag: bool, text: &[u8]) -> Result<(), NoMemory>
     if flag { bytes(out, text) } else { Ok(()) }
 }
 
-fn hexadecimal_digit(digit: u32) -> u8
-    requires { digit < 16 }
-    ensures { result ≡ digit_char digit }
-{
-    if digit < 10 {
-        48 + digit as u8
-    } else {
-        55 + digit as u8
-    }
-}
-
 /// Puts the eight hexadecimal digits of a reason code.
 #[tactic(auto, unfolding(crate::specs::Text::reason_digits))]
 pub fn reason_digits(out: &mut Vec<u8>, n: u32) -> Result<(), NoMemory>
     ensures { OnOk result (out.new.items ≡ out.old.items ++ reason_digits n) }
 {
     let digits = [
-        hexadecimal_digit(n / 268435456 % 16),
-        hexadecimal_digit(n / 16777216 % 16),
-        hexadecimal_digit(n / 1048576 % 16),
-        hexadecimal_digit(n / 65536 % 16),
-        hexadecimal_digit(n / 4096 % 16),
-        hexadecimal_digit(n / 256 % 16),
-        hexadecimal_digit(n / 16 % 16),
-        hexadecimal_digit(n % 16),
+        character(n / 268435456 % 16),
+        character(n / 16777216 % 16),
+        character(n / 1048576 % 16),
+        character(n / 65536 % 16),
+        character(n / 4096 % 16),
+        character(n / 256 % 16),
+        character(n / 16 % 16),
+        character(n % 16),
     ];
     bytes(out, &digits)
 }

@@ -5,7 +5,7 @@ ghost use Rattle.rtm_trace.specs.Answer.{IsFaultOf, IsThatTrace, IsThatLine, Giv
 ghost use Rattle.rtm_trace.specs.Known.{AreKnown, IsSaid};
 ghost use Rattle.rtm_trace.specs.Lines.{IsTraceOf, IsFirstBadLine, text_lines};
 ghost use Rattle.rtm_trace.specs.Reading.{confirmed_entry, entry_on, trace_at_end, read_on, read_lines};
-ghost use Rattle.rtm_trace.specs.View.{TraceView};
+ghost use Rattle.rtm_trace.specs.View.{TraceView, trace_of};
 ghost use Rattle.rtm_trace.specs.Words.{names_of, first_of, after_of};
 
 use crate::entry_line::{line_in, what_in};
@@ -21,22 +21,9 @@ use rtm_codes::NoMemory;
 use rtm_deck_items::Deck;
 use rtm_model::{End, Entry, What};
 use std::alloc::Global;
-use std::marker::Model;
 
-/// A trace: the entries of a history, oldest first, and how it ends.
-#[derive(Debug, Drop)]
-pub struct Trace {
-    pub entries: Vec<Entry>,
-    pub end: End,
-}
-
-impl Model for Trace {
-    ghost use Rattle.rtm_trace.specs.View.{TraceView};
-
-    ghost Value = { TraceView };
-
-    ghost view = { λ a. record { entries = a.entries.items; end = a.end } };
-}
+// What is read: the entries of a history, oldest first, and how it ends.
+type Trace = (Vec<Entry>, End);
 
 // The entry, where it fits and its line is this one.
 fn confirmed_entry(
@@ -198,7 +185,7 @@ fn trace_at_end(entries: Vec<Entry>, end: End, rest: &[u8]) -> Result<Trace, Tra
     ensures { Gives result (trace_at_end entries.items end (text_lines rest.now)) }
 {
     if rest.is_empty() {
-        Ok(Trace { entries, end })
+        Ok((entries, end))
     } else {
         Err(TraceFault::BadLine {
             line: entries.len() as u32 + 3,
@@ -276,9 +263,9 @@ fn read_lines(alloc: Global, deck: &Deck, bytes: &[u8]) -> Result<Trace, TraceFa
 /// Bad is a line that isn't the text of an entry that fits the deck and has the line's own index, the format's line at the
 /// front and an end's at the back; so is a last line without a line feed, a line behind the end, and where there is no end
 /// the line behind the last. The other error is want of memory.
-pub fn read_trace(alloc: Global, deck: &Deck, bytes: &[u8]) -> Result<Trace, TraceFault>
+pub fn read_trace(alloc: Global, deck: &Deck, bytes: &[u8]) -> Result<(Vec<Entry>, End), TraceFault>
     requires { length bytes.now ≤ 4294967294 }
-    ensures found { IfOk result (IsTraceOf deck.now bytes.now) }
+    ensures found { IfOk result (λ read. IsTraceOf deck.now bytes.now (trace_of read)) }
     ensures refused { IfErr result (IsFaultOf deck.now bytes.now) }
 
     // Each trace is read, and the first bad line named, but for want of memory.

@@ -33,7 +33,8 @@ fn push_place(out: &mut Vec<u8>, deck: &Deck, place: Place) -> Result<(), NoMemo
 }
 
 fn push_program(out: &mut Vec<u8>, deck: &Deck, prog: u16) -> Result<(), NoMemory>
-    ensures { OnOk result (out.new.items ≡ out.old.items ++ program_in (slice_get deck.now.programs prog)) }
+    ensures { OnOk result
+        (out.new.items ≡ out.old.items ++ program_in (slice_get deck.now.programs prog)) }
 {
     match deck.programs.get(prog as usize) {
         None => Ok(()),
@@ -168,16 +169,23 @@ fn push_land(out: &mut Vec<u8>, class: Class, from: u32, mark: Mark) -> Result<(
     push_mark(out, mark)
 }
 
-fn push_enter(out: &mut Vec<u8>, kind: Kind, reg: u32, mark: Mark) -> Result<(), NoMemory>
+fn push_enter(
+    out: &mut Vec<u8>,
+    kind: Kind,
+    reg: u32,
+    mark: Mark,
+    bare: bool,
+) -> Result<(), NoMemory>
     requires { IsInRange mark.code }
-    ensures { OnOk result (out.new.items ≡ out.old.items ++ enter_text kind reg mark) }
+    ensures { OnOk result (out.new.items ≡ out.old.items ++ enter_text kind reg mark bare) }
 {
     push::bytes(out, b"ENTER ")?;
     push_kind(out, kind)?;
     push::bytes(out, b" ")?;
     push::number(out, u64::from(reg))?;
     push::bytes(out, b" ")?;
-    push_mark(out, mark)
+    push_mark(out, mark)?;
+    push::flag(out, bare, b" NOSDWA")
 }
 
 fn push_left(
@@ -204,7 +212,8 @@ fn push_release(
     id: u32,
     owner: u16,
 ) -> Result<(), NoMemory>
-    ensures { OnOk result (out.new.items ≡ out.old.items ++ what_text deck.now (What.Release class id owner)) }
+    ensures { OnOk result
+        (out.new.items ≡ out.old.items ++ what_text deck.now (What.Release class id owner)) }
 {
     push::bytes(out, b"RELEASE ")?;
     push_res(out, class)?;
@@ -280,7 +289,12 @@ pub(crate) fn push_what(out: &mut Vec<u8>, deck: &Deck, what: What) -> Result<()
         What::Exec { at, rc } => push_exec(out, deck, at, rc),
         What::Error { at, mark } => push_error(out, deck, at, mark),
         What::Land { class, from, mark } => push_land(out, class, from, mark),
-        What::Enter { kind, reg, mark } => push_enter(out, kind, reg, mark),
+        What::Enter {
+            kind,
+            reg,
+            mark,
+            bare,
+        } => push_enter(out, kind, reg, mark, bare),
         What::Leave {
             kind,
             reg,

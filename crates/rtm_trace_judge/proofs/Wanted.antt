@@ -9,7 +9,7 @@ use Rattle.rtm_deck_items.specs.WellFormed.{is_well_formed}
 use Rattle.rtm_deck_items.proofs.FormFacts.{Limits, limits}
 use Rattle.rtm_model.specs.declared.entry.Entry.{Entry}
 use Rattle.rtm_model.specs.declared.entry.What.{What}
-use Rattle.rtm_model.specs.Births.{world}
+use Rattle.rtm_model.specs.Advance.{world}
 use Rattle.rtm_model.specs.Fits.{Fits}
 use Rattle.rtm_model.specs.Legal.{Legal}
 use Rattle.rtm_model.specs.NextEntry.{next}

@@ -78,7 +78,8 @@ fn is_legal(system: &System)
 #[tactic(auto, using(crate::proofs::Wanted::index_small, crate::proofs::Wanted::wanted_fits))]
 fn not_legal_at(system: &System, index: usize, entry: &Entry) -> JudgeFault
     requires { index ≤ system.now.deck.limit }
-    ensures fault { result ≡ JudgeFault.NotLegal index (wanted_entry system.now.deck system.now.trace entry.now.unit) }
+    ensures fault { result
+        ≡ JudgeFault.NotLegal index (wanted_entry system.now.deck system.now.trace entry.now.unit) }
     ensures legal { Legal system.now.deck system.now.trace }
     ensures wanted { WantedFits system.now.deck result }
 {

@@ -1,6 +1,6 @@
 use Rattle.std.proofs.Common.{sym, ◌∙◌}
 use Rattle.rtm_model.specs.Chains.{is_of_depth}
-use Rattle.rtm_chains.proofs.Backwards.{newest_at, absent_from}
+use Rattle.rtm_model.proofs.Backwards.{newest_at, absent_from}
 use Rattle.rtm_chains.proofs.routine.newest_index.Goals as goal
 
 pub returns-in-Some-clause-there : goal.returns-in-Some-clause-there

@@ -2,4 +2,4 @@ use Rattle.std.proofs.Common.{length}
 use Rattle.rtm_deck.proofs.find.+first_unfound.Given as goal
 
 abbrev pub decreases-first_unfound : goal.decreases-first_unfound
-decreases-first_unfound l = length l.references.now
+decreases-first_unfound l = length l.slots.now

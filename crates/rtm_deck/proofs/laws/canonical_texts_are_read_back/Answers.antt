@@ -1,4 +1,4 @@
-use Rattle.rtm_deck.proofs.BothWays.{reads_back, same_text}
+use Rattle.rtm_deck.proofs.Inputs.BothWays.{reads_back, same_text}
 use Rattle.rtm_deck.proofs.laws.canonical_texts_are_read_back.Goals as goal
 
 pub returns-clause-back : goal.returns-clause-back

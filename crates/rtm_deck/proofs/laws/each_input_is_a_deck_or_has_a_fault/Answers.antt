@@ -1,6 +1,6 @@
 use Rattle.rtm_deck_spelling.proofs.OneDeck.{one_deck}
 use Rattle.rtm_deck_spelling.proofs.NotBoth.{never_both}
-use Rattle.rtm_deck.proofs.BothWays.{deck_or_fault}
+use Rattle.rtm_deck.proofs.Inputs.BothWays.{deck_or_fault}
 use Rattle.rtm_deck.proofs.laws.each_input_is_a_deck_or_has_a_fault.Goals as goal
 
 pub returns-clause-either : goal.returns-clause-either

@@ -1,4 +1,4 @@
-use Rattle.rtm_deck.proofs.BothWays.{that_deck, that_refusal}
+use Rattle.rtm_deck.proofs.Inputs.BothWays.{that_deck, that_refusal}
 use Rattle.rtm_deck.proofs.reading.read_deck.Goals as goal
 
 pub returns-clause-spelled : goal.returns-clause-spelled

@@ -1,11 +1,11 @@
-use Rattle.rtm_deck_canon.proofs.Fitting.{limit_fit, programs_fit, units_fit, commands_fit}
+use Rattle.rtm_deck_canon.proofs.Fitting.{region_fits, programs_fit, units_fit, commands_fit}
 use Rattle.std.proofs.Common.{ℕ, List, ◌++◌, ap, ◌∙◌}
 use Rattle.rtm_deck_canon.specs.Text.{region_text}
 use Rattle.rtm_deck_canon.proofs.PartTexts.{written}
 use Rattle.rtm_deck_canon.proofs.text.deck_text.Goals as goal
 
 pub push_region-requires : goal.push_region-requires
-push_region-requires c = limit_fit c.args.deck.now c.keeps_its_form.ensures.well_formed
+push_region-requires c = region_fits c.args.deck.now c.keeps_its_form.ensures.well_formed
 
 pub push_programs-requires : goal.push_programs-requires
 push_programs-requires c = programs_fit c.args.deck.now c.keeps_its_form.ensures.well_formed

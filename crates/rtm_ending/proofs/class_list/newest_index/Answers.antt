@@ -1,6 +1,6 @@
 use Rattle.std.proofs.Common.{sym, ◌∙◌}
 use Rattle.rtm_model.specs.Ending.{is_of_id}
-use Rattle.rtm_ending.proofs.Backwards.{newest_at, absent_from}
+use Rattle.rtm_model.proofs.Backwards.{newest_at, absent_from}
 use Rattle.rtm_ending.proofs.class_list.newest_index.Goals as goal
 
 pub returns-in-Some-clause-there : goal.returns-in-Some-clause-there

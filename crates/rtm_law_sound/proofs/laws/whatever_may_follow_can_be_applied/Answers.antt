@@ -1,5 +1,5 @@
 use Rattle.std.proofs.Common.{length}
-use Rattle.rtm_model.specs.Births.{world}
+use Rattle.rtm_model.specs.Advance.{world}
 use Rattle.rtm_model.specs.Turns.{entry_of}
 use Rattle.rtm_law_sound.proofs.Histories.{world_sound}
 use Rattle.rtm_law_sound_units.proofs.CanNext.{arrival_applies, next_applies}

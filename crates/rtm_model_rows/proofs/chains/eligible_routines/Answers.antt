@@ -1,6 +1,6 @@
 -- It is computed.
 use Rattle.std.proofs.Common.{refl}
-use Rattle.rtm_model.specs.Births.{world}
+use Rattle.rtm_model.specs.Advance.{world}
 use Rattle.rtm_model_rows.proofs.chains.eligible_routines.Goals as goal
 
 pub returns : goal.returns

@@ -1,5 +1,5 @@
 -- The entries before it are legal, and what its unit may make next is computed: not this.
-use Rattle.rtm_model.specs.Births.{world}
+use Rattle.rtm_model.specs.Advance.{world}
 use Rattle.rtm_model.specs.Legal.{Legal}
 use Rattle.rtm_model_rows.proofs.refusals.landing_while_an_frr_lives.Goals as goal
 use Rattle.std.proofs.Common.{refl, lit<}

@@ -5,7 +5,7 @@ use Rattle.rtm_model.specs.declared.entry.Entry.{Entry}
 use Rattle.rtm_model.specs.declared.entry.What.{What}
 use Rattle.rtm_model.specs.declared.entry.What.TheVariants.{Enter}
 use Rattle.rtm_model.specs.declared.reg.Kind.TheVariants.{Estae}
-use Rattle.rtm_model.specs.Births.{world}
+use Rattle.rtm_model.specs.Advance.{world}
 use Rattle.rtm_model.specs.Legal.{Legal}
 use Rattle.rtm_model_rows.specs.Writing.{enter, full_mark, mark}
 use Rattle.rtm_model_rows.proofs.refusals.record_as_it_was_after_a_cancel.Goals as goal
@@ -13,7 +13,7 @@ use Rattle.std.proofs.Common.{refl, lit<, ap}
 
 -- whether the entry shows CLUP
 abbrev shows_clup : Option What → Bool
-shows_clup (Some (Enter kind reg mark)) = mark.clup
+shows_clup (Some (Enter kind reg mark bare)) = mark.clup
 shows_clup _ = false
 
 -- the entry is not the one that is wanted: that one shows CLUP

@@ -5,7 +5,7 @@ use Rattle.rtm_model.specs.declared.entry.Verdict.TheVariants.{Retry}
 use Rattle.rtm_model.specs.declared.entry.What.{What}
 use Rattle.rtm_model.specs.declared.entry.What.TheVariants.{Leave}
 use Rattle.rtm_model.specs.declared.reg.Kind.TheVariants.{Estae}
-use Rattle.rtm_model.specs.Births.{world}
+use Rattle.rtm_model.specs.Advance.{world}
 use Rattle.rtm_model.specs.Legal.{Legal}
 use Rattle.rtm_model_rows.specs.Writing.{leave, retry}
 use Rattle.rtm_model_rows.proofs.refusals.retry_under_the_newest_block.Goals as goal

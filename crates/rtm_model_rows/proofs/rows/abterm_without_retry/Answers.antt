@@ -1,6 +1,6 @@
 -- Each entry may follow those before it; the rest is computed.
 use Rattle.std.proofs.Common.{refl, lit<}
-use Rattle.rtm_model.specs.Births.{world}
+use Rattle.rtm_model.specs.Advance.{world}
 use Rattle.rtm_model.specs.Legal.{Legal}
 use Rattle.rtm_model.specs.Turns.{seq}
 use Rattle.rtm_model_rows.proofs.rows.abterm_without_retry.Goals as goal

@@ -1,6 +1,6 @@
 -- It is the history of one thread, so that it is legal; the rest is computed.
 use Rattle.std.proofs.Common.{refl, subst}
-use Rattle.rtm_model.specs.Births.{world}
+use Rattle.rtm_model.specs.Advance.{world}
 use Rattle.rtm_model.specs.Legal.{Legal}
 use Rattle.rtm_model.specs.Turns.{seq}
 use Rattle.rtm_law_turns.proofs.Histories.{seq_legal}

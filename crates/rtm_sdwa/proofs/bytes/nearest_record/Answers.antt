@@ -2,7 +2,7 @@ use Rattle.std.proofs.Common.{List, Some, None, ℕ, ap, sym, ◌∙◌}
 use Rattle.std.specs.Prelude.{if◌then◌else◌}
 use Rattle.rtm_deck_operands.specs.Name.{is_padded_name}
 use Rattle.rtm_model.specs.declared.error_record.RecordFlags.{RecordFlags}
-use Rattle.rtm_model.specs.SetrpCard.{is_return_code}
+use Rattle.rtm_deck_operands.specs.Value.{is_return_code}
 use Rattle.rtm_sdwa.specs.Flags.{flags_of}
 use Rattle.rtm_sdwa.proofs.Reading.{code_there, first_there, reason_there, flags_there, rc_there, label_there, field_again, reason_again}
 use Rattle.rtm_sdwa.proofs.bytes.nearest_record.Goals as goal

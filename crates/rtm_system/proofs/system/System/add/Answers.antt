@@ -1,6 +1,6 @@
 use Rattle.std.proofs.Common.{◌≡◌, ◌<◌, ◌≤◌, arith, length, subst, sym}
 use Rattle.rtm_deck_items.proofs.FormFacts.{Limits, limits}
-use Rattle.rtm_model.specs.Births.{world}
+use Rattle.rtm_model.specs.Advance.{world}
 use Rattle.rtm_model.specs.Legal.{MayFollow}
 use Rattle.rtm_system.specs.View.{SystemView}
 use Rattle.rtm_system.proofs.Standing.{adds, can_follow}

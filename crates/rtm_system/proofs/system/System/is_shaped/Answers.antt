@@ -1,5 +1,5 @@
 use Rattle.std.proofs.Common.{subst}
-use Rattle.rtm_model.specs.Births.{world}
+use Rattle.rtm_model.specs.Advance.{world}
 use Rattle.rtm_system_world.specs.Shape.{IsShaped}
 use Rattle.rtm_system.specs.View.{SystemView}
 use Rattle.rtm_system.proofs.Standing.{shape_at}

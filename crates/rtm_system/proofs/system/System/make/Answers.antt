@@ -1,5 +1,5 @@
 use Rattle.std.proofs.Common.{length, sym, ◌∙◌}
-use Rattle.rtm_model.specs.Births.{world}
+use Rattle.rtm_model.specs.Advance.{world}
 use Rattle.rtm_system.proofs.Going.{answers_limit, answers_made}
 use Rattle.rtm_system.proofs.system.System.make.Goals as goal
 

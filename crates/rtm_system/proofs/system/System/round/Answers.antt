@@ -1,6 +1,6 @@
 use Rattle.std.proofs.Common.{◌≡◌, ap, arith, length, ◌∙◌}
 use Rattle.rtm_deck_items.specs.View.{DeckView}
-use Rattle.rtm_model.specs.Births.{world}
+use Rattle.rtm_model.specs.Advance.{world}
 use Rattle.rtm_system.proofs.Rounds.{round_begins}
 use Rattle.rtm_system.proofs.system.System.round.Goals as goal
 

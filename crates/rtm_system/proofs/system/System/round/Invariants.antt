@@ -1,5 +1,5 @@
 use Rattle.std.proofs.Common.{◌-◌, ◌+◌}
-use Rattle.rtm_model.specs.Births.{world}
+use Rattle.rtm_model.specs.Advance.{world}
 use Rattle.rtm_system.proofs.Rounds.{IsLeft}
 use Rattle.rtm_system.proofs.system.System.round.Given as goal
 

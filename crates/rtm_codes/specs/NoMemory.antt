@@ -1,5 +1,0 @@
-use Rattle.rtm_codes.specs.declared.no_memory.NoMemory.{NoMemory}
-
--- the one value of NoMemory
-abbrev pub no_memory : NoMemory
-no_memory = record {}

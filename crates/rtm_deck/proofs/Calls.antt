@@ -1,0 +1,3 @@
+-- What the answers about the code lean on.
+pub mod Giving
+pub mod Scanning

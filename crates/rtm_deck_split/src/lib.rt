@@ -1,9 +1,0 @@
-//! Cuts the input of `verify` into its deck and the trace that follows.
-#![tactic(auto)]
-
-mod input;
-
-pub use input::split;
-
-#[cfg(test)]
-mod tests;

@@ -1,0 +1,8 @@
+-- It is computed.
+use Rattle.std.proofs.Common.{refl}
+use Rattle.rtm_model.specs.Records.{records}
+use Rattle.rtm_model_rows.proofs.handed_records.no_record_for_a_bare_routine.Goals as goal
+
+pub returns : goal.returns
+unfolding records
+returns c = refl

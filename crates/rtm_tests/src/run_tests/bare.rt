@@ -1,0 +1,93 @@
+//! Recovery where routines get no SDWA.
+
+use super::Row;
+use rtm_top::Status;
+
+pub static ROWS: [Row; 3] = [
+    Row {
+        name: "a routine without an SDWA retries by RET15",
+        deck: " REGION SDWA=NO
+MAIN PROG
+ ESTAEX CT,PGM=REC
+ ABEND S0C1
+BACK NOP
+ PEND
+REC PROG
+ IFCODE S0C1,GO
+ RETURN
+GO RET15 4,RETADDR=BACK
+ PEND
+JOB TASK PGM=MAIN
+ END
+",
+        status: Status::Fine,
+        trace: "RTMTRACE 1
+0 JOB EXEC MAIN.1 RC=0
+1 JOB ERROR MAIN.2 S0C1
+2 JOB ENTER ESTAE 0 S0C1 NOSDWA
+3 JOB EXEC REC.1 RC=4
+4 JOB EXEC REC.3 RC=0
+5 JOB LEAVE ESTAE 0 RETRY MAIN.3
+6 JOB EXEC MAIN.3 RC=0
+7 JOB BEGIN S000
+8 JOB DONE S000
+9 * MEMEND
+END ENDED
+",
+    },
+    Row {
+        name: "SETRP without an SDWA is an error",
+        deck: " REGION SDWA=NO
+MAIN PROG
+ ESTAEX CT,PGM=REC
+ ABEND S0C1
+BACK NOP
+ PEND
+REC PROG
+ SETRP RC=4,RETADDR=BACK
+ PEND
+JOB TASK PGM=MAIN
+ END
+",
+        status: Status::Fine,
+        trace: "RTMTRACE 1
+0 JOB EXEC MAIN.1 RC=0
+1 JOB ERROR MAIN.2 S0C1
+2 JOB ENTER ESTAE 0 S0C1 NOSDWA
+3 JOB ERROR REC.1 SEE7
+4 JOB LEAVE ESTAE 0 FAIL
+5 JOB BEGIN S0C1
+6 JOB DONE S0C1
+7 * MEMEND
+END ENDED
+",
+    },
+    Row {
+        name: "an FRR has an SDWA all the same",
+        deck: " REGION SDWA=NO
+MAIN PROG
+ SETFRR A,PGM=REC
+ ABEND S0C1
+BACK SETFRR D
+ PEND
+REC PROG
+ SETRP RC=4,RETADDR=BACK
+ PEND
+JOB TASK PGM=MAIN
+ END
+",
+        status: Status::Fine,
+        trace: "RTMTRACE 1
+0 JOB EXEC MAIN.1 RC=0
+1 JOB ERROR MAIN.2 S0C1
+2 JOB ENTER FRR 0 S0C1
+3 JOB EXEC REC.1 RC=0
+4 JOB LEAVE FRR 0 RETRY MAIN.3
+5 JOB EXEC MAIN.3 RC=0
+6 JOB BEGIN S000
+7 JOB DONE S000
+8 * MEMEND
+END ENDED
+",
+    },
+];

@@ -1,0 +1,4 @@
+pub mod NoMemory
+pub mod Digits
+pub mod Numeral
+pub mod Cutting

@@ -1,0 +1,11 @@
+//! Each type may move to another thread.
+
+use crate::{Answer, Status};
+
+fn asks_send<T: Send>() {}
+
+/// Nothing but the question, which the compiler answers: may each type move to another thread?
+pub fn types_are_send() {
+    asks_send::<Answer>();
+    asks_send::<Status>();
+}
