@@ -1,0 +1,14 @@
+pub mod Booleans
+pub mod Appended
+pub mod Lives
+pub mod Nexts
+pub mod Changes
+pub mod Posted
+pub mod Registered
+pub mod OpenBrackets
+pub mod Doomed
+pub mod Clups
+pub mod Fields
+pub mod Each
+pub mod Ends
+pub mod Over
