@@ -5,43 +5,56 @@ from __future__ import annotations
 import argparse
 import os
 import sys
-from typing import Any, List, NoReturn, Optional
+from typing import Any, Callable, List, NoReturn, Optional
 
 from . import VERSION
+from .diff import diff
 from .doctor import doctor
 from .failures import CANNOT_WRITE, Failure, WRONG_WORDS
+from .lint import lint
 from .sweep import sweep
 from .view import view
+from .why import why
+from .whynot import whynot
 
 STATUSES = """exit statuses:
-  0   done; with view: the trace is legal
-  1   with sweep --require: the routine isn't entered at some moment
+  0   done; with view, why and diff: the trace is legal
+  1   with sweep --require: the routine isn't entered at some moment; with diff: the traces part;
+      with whynot: no change makes a retry
   3   rtmrun isn't built, or can't be run
   12  rtmrun had no memory for the run
   8   the deck is refused
-  9   the trace has a bad line; what stands before it is drawn
-  10  the trace isn't legal; what stands before the first wrong entry is drawn
-  11  the trace is legal and ends otherwise; it is drawn
+  9   the trace has a bad line; what stands before it is drawn or told
+  10  the trace isn't legal; what stands before the first wrong entry is drawn or told
+  11  the trace is legal and ends otherwise; it is drawn or told
   16  a file can't be read
   17  a file can't be written
   20  the words are wrong
 """
-VIEW_EXAMPLE = """examples:
+RAW = argparse.RawDescriptionHelpFormatter
+VIEW_EXAMPLES = """\
   tools/rtm view examples/retry.deck -o retry.html
   tools/rtm view examples/retry.deck examples/retry.trace --svg > retry.svg
   ./rtmrun seq < my.deck | tools/rtm view my.deck - --from 100 --to 180 > part.html
-  cat my.deck my.trace | tools/rtm view - > picture.html
-
-"""
-
-
-SWEEP_EXAMPLE = """examples:
+  cat my.deck my.trace | tools/rtm view - > picture.html"""
+SWEEP_EXAMPLES = """\
   tools/rtm sweep examples/cancel.deck
   tools/rtm sweep my.deck --command "CANCEL WORKER,DUMP=YES" --require CLEANUP
   tools/rtm sweep my.deck --html -o sweep.html
-  tools/rtm sweep my.deck --plan | parallel | tools/rtm sweep - --gather
-
-"""
+  tools/rtm sweep my.deck --orders --jobs 4
+  tools/rtm sweep my.deck --plan | parallel | tools/rtm sweep - --gather"""
+WHY_EXAMPLES = """\
+  tools/rtm why examples/term.deck 6
+  tools/rtm why my.deck 120 my.trace"""
+WHYNOT_EXAMPLES = """\
+  tools/rtm whynot examples/retry.deck
+  tools/rtm whynot my.deck --entry 12 --jobs 4"""
+DIFF_EXAMPLES = """\
+  tools/rtm diff my.deck before.trace after.trace
+  ./rtmrun seq my.deck | tools/rtm diff my.deck theirs.trace -"""
+LINT_EXAMPLES = """\
+  tools/rtm lint my.deck
+  tools/rtm lint - < my.deck"""
 
 
 class Parser(argparse.ArgumentParser):
@@ -61,57 +74,133 @@ def entry_number(text: str) -> int:
 
 def make_parser() -> Parser:
     """All words with their options."""
-    raw = argparse.RawDescriptionHelpFormatter
-    parser = Parser(prog="rtm", formatter_class=raw, epilog=STATUSES,
-                    description="Pictures of what rtmrun prints. It computes no rule, and proves nothing.")
+    parser = Parser(prog="rtm", formatter_class=RAW, epilog=STATUSES,
+                    description="Pictures of what rtmrun prints, and reasons. It computes no rule, and proves nothing.")
     parser.add_argument("--version", action="version", version="rtm " + VERSION)
     words = parser.add_subparsers(dest="word", metavar="word", parser_class=Parser)
     words.required = True
-    one = words.add_parser("view", formatter_class=raw, epilog=VIEW_EXAMPLE + STATUSES,
-                           help="draw a deck and its trace", description="Draws a deck and its trace as one HTML file.")
-    one.add_argument("deck", help="the deck, or - for standard input; a trace may follow its END card")
-    one.add_argument("trace", nargs="?", help="the trace, or -; where none is given, rtmrun makes it")
-    one.add_argument("--svg", action="store_true", help="the picture alone, as SVG")
-    one.add_argument("--unit", action="append", metavar="NAME", help="this unit's lines alone; may be repeated")
-    one.add_argument("--from", dest="first", type=entry_number, metavar="N", help="from this entry on")
-    one.add_argument("--to", dest="last", type=entry_number, metavar="N", help="up to this entry")
-    folding = one.add_mutually_exclusive_group()
-    folding.add_argument("--fold", action="store_true", help="fold what repeats, also in a short trace")
-    folding.add_argument("--all", action="store_true", help="draw each line, also of a long trace")
-    one.add_argument("-o", dest="output", metavar="FILE", help="write here, not to standard output")
-    one.set_defaults(run=view)
-    two = add_sweep(words, raw)
-    other = words.add_parser("doctor", formatter_class=raw, epilog="example:\n  tools/rtm doctor\n",
-                             help="say which program is asked, and what is missing",
-                             description="Prints the program, the versions, and what is missing.")
-    other.set_defaults(run=doctor)
-    for word in (one, two, other):
+    for add in (add_view, add_sweep, add_why, add_whynot, add_diff, add_lint, add_doctor):
+        word = add(words)
         word.add_argument("--rtmrun", metavar="PATH", help="the built program (or the environment variable RTMRUN)")
     return parser
 
 
-def add_sweep(words: Any, raw: Any) -> argparse.ArgumentParser:
+def add_word(words: Any, name: str, run: Callable[[argparse.Namespace], int], examples: str, says: str,
+             description: str) -> argparse.ArgumentParser:
+    """A word, with its examples and the statuses in its help."""
+    parser: argparse.ArgumentParser = words.add_parser(
+        name, formatter_class=RAW, epilog="examples:\n%s\n\n%s" % (examples, STATUSES), help=says,
+        description=description)
+    parser.set_defaults(run=run)
+    return parser
+
+
+def add_output(parser: argparse.ArgumentParser) -> None:
+    parser.add_argument("-o", dest="output", metavar="FILE", help="write here, not to standard output")
+
+
+def add_json(parser: argparse.ArgumentParser) -> None:
+    parser.add_argument("--json", action="store_true", help="as JSON")
+
+
+def add_deck_and_trace(parser: argparse.ArgumentParser, between: str = "") -> None:
+    """A deck and perhaps its trace, with the number of an entry between where that is asked for."""
+    parser.add_argument("deck", help="the deck, or - for standard input; a trace may follow its END card")
+    if between:
+        parser.add_argument(between, type=entry_number, help="the number of the entry")
+    parser.add_argument("trace", nargs="?", help="the trace, or -; where none is given, rtmrun makes it")
+
+
+def add_view(words: Any) -> argparse.ArgumentParser:
+    """The word `view`."""
+    parser = add_word(words, "view", view, VIEW_EXAMPLES, "draw a deck and its trace",
+                      "Draws a deck and its trace as one HTML file.")
+    add_deck_and_trace(parser)
+    parser.add_argument("--svg", action="store_true", help="the picture alone, as SVG")
+    parser.add_argument("--unit", action="append", metavar="NAME", help="this unit's lines alone; may be repeated")
+    parser.add_argument("--from", dest="first", type=entry_number, metavar="N", help="from this entry on")
+    parser.add_argument("--to", dest="last", type=entry_number, metavar="N", help="up to this entry")
+    folding = parser.add_mutually_exclusive_group()
+    folding.add_argument("--fold", action="store_true", help="fold what repeats, also in a short trace")
+    folding.add_argument("--all", action="store_true", help="draw each line, also of a long trace")
+    add_output(parser)
+    return parser
+
+
+def add_sweep(words: Any) -> argparse.ArgumentParser:
     """The word `sweep`."""
-    two: argparse.ArgumentParser = words.add_parser(
-        "sweep", formatter_class=raw, epilog=SWEEP_EXAMPLE + STATUSES, help="move a cancel over all moments of a run",
-        description="Runs a deck once for each moment at which a cancel can come, and says what became of it.")
-    two.add_argument("deck", help="the deck, or - for standard input; with --gather the lines of its jobs")
-    two.add_argument("--command", metavar="CARD", help='the command that moves, as "CANCEL JOB" (the deck\'s first '
-                     "command, else a cancel of the job step task)")
-    two.add_argument("--require", metavar="ROUTINE", help="end with 1 where the command lands and this isn't entered")
-    two.add_argument("--from", dest="first", type=entry_number, default=0, metavar="N", help="from this moment on")
-    two.add_argument("--to", dest="last", type=entry_number, metavar="N", help="up to this moment")
-    two.add_argument("--all", action="store_true", help="all moments, also where there are more than 2,000")
-    two.add_argument("--jobs", type=entry_number, default=1, metavar="N", help="so many runs at a time")
-    kinds = two.add_mutually_exclusive_group()
+    parser = add_word(words, "sweep", sweep, SWEEP_EXAMPLES, "move a cancel over all moments of a run",
+                      "Runs a deck once for each moment at which a cancel can come, and says what became of it.")
+    parser.add_argument("deck", help="the deck, or - for standard input; with --gather the lines of its jobs")
+    parser.add_argument("--command", metavar="CARD", help='the command that moves, as "CANCEL JOB" (the deck\'s first '
+                        "command, else a cancel of the job step task)")
+    parser.add_argument("--require", metavar="ROUTINE",
+                        help="end with 1 where the command lands and this isn't entered")
+    parser.add_argument("--from", dest="first", type=entry_number, default=0, metavar="N", help="from this moment on")
+    parser.add_argument("--to", dest="last", type=entry_number, metavar="N", help="up to this moment")
+    parser.add_argument("--all", action="store_true", help="all moments, also where there are more than 2,000")
+    parser.add_argument("--jobs", type=entry_number, default=1, metavar="N", help="so many runs at a time")
+    parser.add_argument("--orders", action="store_true", help="move all commands of the deck, in all the orders in "
+                        "which they may arrive (10,000 runs at most)")
+    kinds = parser.add_mutually_exclusive_group()
     kinds.add_argument("--html", action="store_true", help="a page with one row a moment")
     kinds.add_argument("--json", action="store_true", help="the moments as JSON")
     kinds.add_argument("--plan", action="store_true", help="write one job a line, for GNU parallel or a batch queue")
     kinds.add_argument("--gather", action="store_true", help="make the table of what the jobs of a plan printed")
     kinds.add_argument("--at", type=entry_number, metavar="N", help="run this moment alone, as a job of a plan does")
-    two.add_argument("-o", dest="output", metavar="FILE", help="write here, not to standard output")
-    two.set_defaults(run=sweep)
-    return two
+    add_output(parser)
+    return parser
+
+
+def add_why(words: Any) -> argparse.ArgumentParser:
+    """The word `why`."""
+    parser = add_word(words, "why", why, WHY_EXAMPLES, "say what an entry shows of its reason",
+                      "Says what happened at an entry, by which rule, and what lines and cards show of the reason.")
+    add_deck_and_trace(parser, "entry")
+    add_json(parser)
+    add_output(parser)
+    return parser
+
+
+def add_whynot(words: Any) -> argparse.ArgumentParser:
+    """The word `whynot`."""
+    parser = add_word(words, "whynot", whynot, WHYNOT_EXAMPLES, "find a change that makes a retry",
+                      "Finds which change of one operand has an error retried, by running each changed deck.")
+    parser.add_argument("deck", help="the deck, or - for standard input")
+    parser.add_argument("--entry", type=entry_number, metavar="N", help="the error of this entry (the last one that "
+                        "ended its unit)")
+    parser.add_argument("--jobs", type=entry_number, default=1, metavar="N", help="so many runs at a time")
+    add_json(parser)
+    add_output(parser)
+    return parser
+
+
+def add_diff(words: Any) -> argparse.ArgumentParser:
+    """The word `diff`."""
+    parser = add_word(words, "diff", diff, DIFF_EXAMPLES, "say where two traces of a deck part",
+                      "Says where two traces of a deck part, and what each unit did otherwise.")
+    parser.add_argument("deck", help="the deck, or - for standard input")
+    parser.add_argument("one", metavar="trace1", help="a trace, or -")
+    parser.add_argument("other", metavar="trace2", help="another trace, or -")
+    add_json(parser)
+    add_output(parser)
+    return parser
+
+
+def add_lint(words: Any) -> argparse.ArgumentParser:
+    """The word `lint`."""
+    parser = add_word(words, "lint", lint, LINT_EXAMPLES, "name all faults of a deck, and surprises",
+                      "Names the faults of a deck one after another, and what is allowed and surprising.")
+    parser.add_argument("deck", help="the deck, or - for standard input")
+    add_json(parser)
+    add_output(parser)
+    return parser
+
+
+def add_doctor(words: Any) -> argparse.ArgumentParser:
+    """The word `doctor`."""
+    return add_word(words, "doctor", doctor, "  tools/rtm doctor", "say which program is asked, and what is missing",
+                    "Prints the program, the versions, and what is missing.")
 
 
 def main(words: Optional[List[str]] = None) -> int:

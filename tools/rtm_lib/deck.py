@@ -12,6 +12,25 @@ from typing import Dict, List, Optional, Tuple
 
 # Behind these operations all that follows is a remark.
 WITHOUT_OPERANDS = frozenset(["NOP", "RETURN", "PROG", "PEND", "OPER", "END"])
+# How many entries a run has at most where REGION doesn't say.
+DEFAULT_LIMIT = 20000
+
+
+def lines_of(text: bytes) -> List[str]:
+    """The lines of a deck or a trace, each without its line feed."""
+    lines = text.decode("latin-1").split("\n")
+    return lines[:-1] if not lines[-1] else lines
+
+
+@dataclass(frozen=True)
+class Place:
+    """A program and the number of one of its operations."""
+
+    program: str
+    number: int
+
+    def __str__(self) -> str:
+        return "%s.%d" % (self.program, self.number)
 
 
 @dataclass(frozen=True)
@@ -41,6 +60,12 @@ class Card:
                 return operand[len(key) + 1:]
         return ""
 
+    @property
+    def return_code(self) -> Optional[int]:
+        """What a SETRP or a RET15 asks for by a return code, if it gives one."""
+        text = {"SETRP": self.value("RC"), "RET15": self.positional(0)}.get(self.operation, "")
+        return int(text) if text.isdigit() else None
+
 
 @dataclass
 class Program:
@@ -67,21 +92,33 @@ class Unit:
 
 @dataclass
 class Deck:
-    """A deck's cards, found by program and number."""
+    """A deck's cards, found by program and number, and what its REGION card says."""
 
     lines: List[str] = field(default_factory=list)
+    region: Optional[Card] = None
     programs: Dict[str, Program] = field(default_factory=dict)
     units: List[Unit] = field(default_factory=list)
     commands: List[Card] = field(default_factory=list)
 
-    def card(self, program: str, number: int) -> Optional[Card]:
-        """The card at a place, or None where the place is a program's end."""
-        found = self.programs.get(program)
-        return found.card(number) if found else None
+    def card(self, place: Optional[Place]) -> Optional[Card]:
+        """The card at a place, or None where there is no place or it is a program's end."""
+        found = self.programs.get(place.program) if place is not None else None
+        return found.card(place.number) if found is not None and place is not None else None
 
     def unit(self, name: str) -> Optional[Unit]:
         """The unit of that name."""
         return next((unit for unit in self.units if unit.name == name), None)
+
+    @property
+    def limit(self) -> int:
+        """How many entries a run has at most."""
+        given = self.region.value("LIMIT") if self.region is not None else ""
+        return int(given) if given.isdigit() else DEFAULT_LIMIT
+
+    @property
+    def sdwa(self) -> bool:
+        """Whether ESTAE and ESTAI routines get an SDWA."""
+        return self.region is None or self.region.value("SDWA") != "NO"
 
     @property
     def job_step(self) -> str:
@@ -123,9 +160,7 @@ def read_card(number: int, line: str) -> Optional[Card]:
 
 def read_deck(text: bytes) -> Deck:
     """Reads the cards up to END."""
-    deck = Deck(lines=text.decode("latin-1").split("\n"))
-    if deck.lines and not deck.lines[-1]:
-        deck.lines.pop()
+    deck = Deck(lines_of(text))
     program: Optional[Program] = None
     for number, line in enumerate(deck.lines, 1):
         card = read_card(number, line)
@@ -142,6 +177,8 @@ def read_deck(text: bytes) -> Deck:
                 Unit(card.name, card.operation, card.value("PGM"), card.value("TASK"), number))
         elif card.operation == "CANCEL":
             deck.commands.append(card)
+        elif card.operation == "REGION":
+            deck.region = card
     return deck
 
 

@@ -156,7 +156,10 @@ class Drawing:
             self.edge(frame + " sides" + (" dashed" if self.is_open_above(box) else ""), left, right, top)
             self.edge(frame + " sides" + ("" if closed else " dashed"), left, right, foot)
         if self.rows.shows(box.born):
-            self.canvas.rect(BOXES, "band " + kind, left, top, right - left, HEADER_BAND, 3)
+            if box.is_bare:
+                self.edge("no-sdwa", left, right, top + HEADER_BAND)
+            else:
+                self.canvas.rect(BOXES, "band " + kind, left, top, right - left, HEADER_BAND, 3)
         self.kind_edge(kind, left, top, foot)
         if box.ordinal and self.rows.shows(box.born):
             middle = self.rows.middle(box.born)

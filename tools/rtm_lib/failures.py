@@ -3,6 +3,8 @@
 from __future__ import annotations
 
 OK = 0
+# A routine that is required isn't entered, or two traces part.
+NOT_ENTERED = 1
 NO_PROGRAM = 3
 DECK_REFUSED = 8
 BAD_LINE = 9

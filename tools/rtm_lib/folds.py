@@ -61,8 +61,7 @@ class Shapes:
         return (verb,) + entry.words
 
     def operation_at(self, line: Line) -> str:
-        place = line.entry.place
-        card = self.history.deck.card(place.program, place.number) if place is not None else None
+        card = self.history.deck.card(line.entry.place)
         return card.operation if card is not None else "end"
 
     def reference(self, line: Line) -> Hashable:

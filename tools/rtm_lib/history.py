@@ -15,7 +15,7 @@ from .rules import Rule
 from .trace import MASTER, Entry, Trace
 
 BEFORE_ALL = -1
-POSTING_VERDICTS = {0: "QUEUED", 4: "MERGED", 8: "LATE"}
+POSTING_FATES = {0: "QUEUED", 4: "MERGED", 8: "LATE"}
 
 
 @dataclass
@@ -30,12 +30,17 @@ class Box:
     ended: Optional[int] = None
     # The verb or verdict that closed it.
     ending: str = "END"
-    # By which rule no abort lands while it runs, and which asking of its error it is, from 1.
+    # By which rule no abort lands while it runs, which asking of its error it is, from 1, and the ENTER's entry.
     shield: Optional[Rule] = None
     ordinal: int = 0
     header: Optional[Entry] = None
     # The name stands beside the next line that is in the box.
     to_be_named: bool = False
+
+    @property
+    def is_bare(self) -> bool:
+        """Whether it is a routine that was entered without an SDWA."""
+        return self.header is not None and self.header.without_sdwa
 
 
 @dataclass
@@ -61,6 +66,27 @@ class Rail:
     born: int
     ended: Optional[int] = None
     ending: str = "END"
+
+
+@dataclass(eq=False)
+class Registration:
+    """A routine or a resource manager that a card made for a unit, as long as the lines say that it is there."""
+
+    unit: str
+    kind: str
+    # The entry that made it: the number by which the trace names it.
+    number: int
+    program: str
+    card: Optional[Card] = None
+    # From which entry on the unit has it: an ESTAI routine may be older than the task.
+    born: int = 0
+    ended: Optional[int] = None
+    # The request block that made an ESTAE routine: a retry goes on there, and where it ends the routine does.
+    owner: Optional[Box] = None
+
+    def is_there(self, index: int) -> bool:
+        """Whether the unit had it just before an entry."""
+        return self.born < index and (self.ended is None or self.ended >= index)
 
 
 @dataclass
@@ -147,6 +173,7 @@ class History:
     retries: List[Retry] = field(default_factory=list)
     aborts: List[Abort] = field(default_factory=list)
     births: List[Birth] = field(default_factory=list)
+    registrations: List[Registration] = field(default_factory=list)
     memory_end: Optional[int] = None
 
     @property
@@ -159,6 +186,10 @@ class History:
     def length(self) -> int:
         return len(self.lines)
 
+    def maker(self, number: int) -> Optional[Card]:
+        """The card of the entry that made a routine."""
+        return self.lines[number].card if number < len(self.lines) else None
+
 
 @dataclass
 class Bracket:
@@ -168,9 +199,15 @@ class Bracket:
     routine: Optional[Box] = None
     number: int = -1
     error: Optional[ErrorThread] = None
-    frrs: List[int] = field(default_factory=list)
+    frrs: List[Registration] = field(default_factory=list)
+    estaes: List[Registration] = field(default_factory=list)
     # SETRP REMREC= of the routine that runs here, as its cards said so far.
     removes_itself: bool = False
+
+    @property
+    def depth(self) -> int:
+        """How deep its newest request block is drawn."""
+        return self.blocks[-1].depth if self.blocks else 0
 
 
 @dataclass
@@ -179,6 +216,8 @@ class UnitState:
 
     lane: Lane
     brackets: List[Bracket] = field(default_factory=list)
+    # Those of the nearest attacher first.
+    estais: List[Registration] = field(default_factory=list)
     doomed: bool = False
     waiting_retry: Optional[Retry] = None
 
@@ -209,8 +248,7 @@ class Follower:
         self.history = History(deck, trace)
         self.deck = deck
         self.states: Dict[str, UnitState] = {}
-        # The request block in which an ESTAEX made a routine, by its entry: a retry of it goes on there.
-        self.made_in: Dict[int, Box] = {}
+        self.managers: List[Registration] = []
         self.pending: Dict[Tuple[int, str, str], Abort] = {}
         self.holdings: Dict[str, List[Rail]] = {}
 
@@ -242,6 +280,13 @@ class Follower:
             self.history.memory_end = entry.index
             self.bear(MASTER, entry.index, entry.unit)
 
+    def register(self, unit: str, kind: str, number: int, born: int, owner: Optional[Box] = None) -> Registration:
+        """A unit has one routine more."""
+        made = Registration(unit, kind, number, self.program_of(kind, number), self.history.maker(number), born, None,
+                            owner)
+        self.history.registrations.append(made)
+        return made
+
     def box(self, unit: str, kind: str, depth: int, program: str, born: int) -> Box:
         made = Box(unit, kind, depth, program, born)
         self.history.boxes.append(made)
@@ -256,8 +301,7 @@ class Follower:
         state = self.states[entry.unit]
         line = Line(entry)
         self.history.lines.append(line)
-        blocks = state.innermost.blocks
-        line.depth = blocks[-1].depth if blocks else 0
+        line.depth = state.innermost.depth
         self.end_retry_arrow(state, entry)
         getattr(self, "on_" + entry.verb.lower())(entry, state, line)
         line.level = state.level
@@ -281,22 +325,23 @@ class Follower:
     # The verbs
 
     def on_exec(self, entry: Entry, state: UnitState, line: Line) -> None:
-        assert entry.place is not None
-        self.name(state, line)
-        line.card = self.deck.card(entry.place.program, entry.place.number)
-        bracket = state.innermost
+        self.stands_at_card(entry, state, line)
         if line.card is None:
-            line.program_end = entry.place.program
-            self.returns(bracket, entry)
+            self.returns(state.innermost, entry)
             return
         action = getattr(self, "card_" + line.card.operation.lower(), None)
         if action is not None:
             action(entry, state, line, line.card)
 
-    def on_error(self, entry: Entry, state: UnitState, line: Line) -> None:
-        assert entry.place is not None
+    def stands_at_card(self, entry: Entry, state: UnitState, line: Line) -> None:
+        """Finds the card at the line's place; without one that is the end of its program."""
         self.name(state, line)
-        line.card = self.deck.card(entry.place.program, entry.place.number)
+        line.card = self.deck.card(entry.place)
+        if line.card is None and entry.place is not None:
+            line.program_end = entry.place.program
+
+    def on_error(self, entry: Entry, state: UnitState, line: Line) -> None:
+        self.stands_at_card(entry, state, line)
         line.error = self.open_error(entry, state, line)
 
     def on_land(self, entry: Entry, state: UnitState, line: Line) -> None:
@@ -308,7 +353,6 @@ class Follower:
             abort = self.post(poster, entry.unit, entry.kind, entry.number, "QUEUED")
         abort.landed = abort.ended = entry.index
         line.abort = abort
-        assert entry.mark is not None
         if "CLUP" in entry.mark.flags:
             state.doomed = True
         line.error = self.open_error(entry, state, line)
@@ -322,7 +366,7 @@ class Follower:
 
     def on_enter(self, entry: Entry, state: UnitState, line: Line) -> None:
         outer = state.innermost
-        line.depth = (outer.blocks[-1].depth if outer.blocks else 0) + 1
+        line.depth = outer.depth + 1
         line.routine = self.program_of(entry.kind, entry.number)
         box = self.box(entry.unit, entry.kind, line.depth, line.routine, entry.index)
         box.header = entry
@@ -350,10 +394,14 @@ class Follower:
             box.ended, box.ending = entry.index, "LEAVE" if box is bracket.routine else "BEGIN"
         if bracket.error is not None:
             bracket.error.ended, bracket.error.ending = entry.index, "FAIL"
+        end_all(bracket.frrs + bracket.estaes, entry.index)
         if entry.verdict == "RETRY":
             self.retries(entry, state, line)
-        if entry.kind == "FRR" and (entry.verdict != "RETRY" or bracket.removes_itself):
-            outer.frrs = [frr for frr in outer.frrs if frr != entry.number]
+        if entry.verdict != "RETRY" or bracket.removes_itself:
+            for own in (outer.frrs, outer.estaes, state.estais, self.managers):
+                drop(own, [one for one in own if (one.kind, one.number) == (entry.kind, entry.number)], entry.index)
+        if entry.verdict == "STOP":
+            drop(state.estais, list(state.estais), entry.index)
 
     def retries(self, entry: Entry, state: UnitState, line: Line) -> None:
         """The error is over, and the program goes on where the routine said."""
@@ -363,20 +411,18 @@ class Follower:
             outer.error = None
         goes_on = self.retry_block(entry, outer)
         while outer.blocks and goes_on is not None and outer.blocks[-1] is not goes_on:
-            box = outer.blocks.pop()
-            box.ended, box.ending = entry.index, "RETRY"
-        assert entry.place is not None
-        card = self.deck.card(entry.place.program, entry.place.number)
+            self.end_block(outer, entry.index, "RETRY")
+        card = self.deck.card(entry.place)
         line.label = card.name if card is not None and card.name else str(entry.place)
-        retry = Retry(entry.unit, entry.index, outer.blocks[-1].depth if outer.blocks else 0)
+        retry = Retry(entry.unit, entry.index, outer.depth)
         state.waiting_retry = retry
         self.history.retries.append(retry)
 
     def retry_block(self, entry: Entry, outer: Bracket) -> Optional[Box]:
         """The request block in which the retry goes on: docs/MACHINE.md, section 6."""
         if entry.kind == "ESTAE":
-            made = self.made_in.get(entry.number)
-            return made if made in outer.blocks else None
+            owner = next((one.owner for one in outer.estaes if one.number == entry.number), None)
+            return owner if owner in outer.blocks else None
         if not outer.blocks:
             return None
         return outer.blocks[0] if entry.kind == "ESTAI" else outer.blocks[-1]
@@ -409,6 +455,7 @@ class Follower:
         purged = self.states.get(entry.owner)
         if purged is not None:
             self.close_all(purged, entry.index, "PURGE")
+            drop(self.managers, [one for one in self.managers if one.unit == entry.owner], entry.index)
             purged.lane.purged = entry.index
 
     def on_memend(self, entry: Entry, state: UnitState, line: Line) -> None:
@@ -421,7 +468,9 @@ class Follower:
                 box.ended, box.ending = index, ending
             if bracket.error is not None:
                 bracket.error.ended, bracket.error.ending = index, ending
-        state.brackets = [Bracket()]
+            end_all(bracket.frrs + bracket.estaes, index)
+        end_all(state.estais, index)
+        state.brackets, state.estais = [Bracket()], []
         state.waiting_retry = None
         for abort in self.history.aborts:
             if abort.unit == state.lane.unit and abort.ended is None:
@@ -431,8 +480,13 @@ class Follower:
 
     def returns(self, bracket: Bracket, entry: Entry) -> None:
         if bracket.blocks:
-            box = bracket.blocks.pop()
-            box.ended, box.ending = entry.index, "RETURN"
+            self.end_block(bracket, entry.index, "RETURN")
+
+    def end_block(self, bracket: Bracket, index: int, ending: str) -> None:
+        """The newest request block ends, and the ESTAE routines that it made."""
+        box = bracket.blocks.pop()
+        box.ended, box.ending = index, ending
+        drop(bracket.estaes, [one for one in bracket.estaes if one.owner is box], index)
 
     def card_return(self, entry: Entry, state: UnitState, line: Line, card: Card) -> None:
         self.returns(state.innermost, entry)
@@ -443,31 +497,53 @@ class Follower:
         state.innermost.blocks.append(box)
 
     def card_xctl(self, entry: Entry, state: UnitState, line: Line, card: Card) -> None:
-        box = state.innermost.blocks[-1]
+        box, estaes = state.innermost.blocks[-1], state.innermost.estaes
         box.program, box.to_be_named = card.positional(0), True
+        drop(estaes, [one for one in estaes if one.owner is box and one.card and one.card.value("XCTL") != "YES"],
+             entry.index)
 
     def card_estaex(self, entry: Entry, state: UnitState, line: Line, card: Card) -> None:
-        if entry.return_code == 0 and card.positional(0) in ("CT", "OV"):
-            self.made_in[entry.index] = state.innermost.blocks[-1]
+        estaes, word = state.innermost.estaes, card.positional(0)
+        if entry.return_code != 0:
+            return
+        if word in ("OV", "0"):
+            drop(estaes, estaes[-1:], entry.index)
+        if word in ("CT", "OV"):
+            owner = state.innermost.blocks[-1]
+            estaes.append(self.register(entry.unit, "ESTAE", entry.index, entry.index, owner))
 
     def card_setfrr(self, entry: Entry, state: UnitState, line: Line, card: Card) -> None:
         frrs, word = state.innermost.frrs, card.positional(0)
         if entry.return_code != 0:
             return
         if word == "P":
-            frrs.clear()
-        if word in ("D", "R") and frrs:
-            frrs.pop()
+            drop(frrs, list(frrs), entry.index)
+        if word in ("D", "R"):
+            drop(frrs, frrs[-1:], entry.index)
         if word in ("A", "R"):
-            frrs.append(entry.index)
+            frrs.append(self.register(entry.unit, "FRR", entry.index, entry.index))
+
+    def card_resmgr(self, entry: Entry, state: UnitState, line: Line, card: Card) -> None:
+        """A manager of the address space is the master's."""
+        unit = MASTER if card.value("TYPE") == "SPACE" else entry.unit
+        if entry.return_code == 0 and card.positional(0) == "ADD":
+            self.managers.append(self.register(unit, "MGR", entry.index, entry.index))
+        elif entry.return_code == 0:
+            equal = [one for one in self.managers if (one.unit, one.program) == (unit, card.value("PGM"))]
+            drop(self.managers, equal[-1:], entry.index)
 
     def card_setrp(self, entry: Entry, state: UnitState, line: Line, card: Card) -> None:
         if card.value("REMREC"):
             state.innermost.removes_itself = card.value("REMREC") == "YES"
 
     def card_attachx(self, entry: Entry, state: UnitState, line: Line, card: Card) -> None:
-        if entry.return_code == 0:
-            self.bear(card.positional(0), entry.index, entry.unit)
+        if entry.return_code != 0:
+            return
+        name = card.positional(0)
+        self.bear(name, entry.index, entry.unit)
+        if card.operation == "ATTACHX":
+            numbers = ([entry.index] if card.value("ESTAI") else []) + [one.number for one in state.estais]
+            self.states[name].estais = [self.register(name, "ESTAI", number, entry.index) for number in numbers]
 
     card_schedule = card_attachx
 
@@ -489,15 +565,17 @@ class Follower:
         return None
 
     def card_detach(self, entry: Entry, state: UnitState, line: Line, card: Card) -> None:
-        line.abort = self.post(entry.unit, card.positional(0), "DETACH", entry.index,
-                               POSTING_VERDICTS.get(entry.return_code, ""))
+        line.abort = self.post_by_card(entry, card.positional(0), "DETACH")
 
     def card_callrtm(self, entry: Entry, state: UnitState, line: Line, card: Card) -> None:
         if card.positional(0) == "MEMTERM":
             self.memory_ends(entry)
         else:
-            line.abort = self.post(entry.unit, card.value("TASK"), "ABTERM", entry.index,
-                                   POSTING_VERDICTS.get(entry.return_code, ""))
+            line.abort = self.post_by_card(entry, card.value("TASK"), "ABTERM")
+
+    def post_by_card(self, entry: Entry, unit: str, kind: str) -> Abort:
+        """A card's abort; the return code tells what became of it."""
+        return self.post(entry.unit, unit, kind, entry.index, POSTING_FATES.get(entry.return_code, ""))
 
     def post(self, poster: str, unit: str, kind: str, born: int, fate: str) -> Abort:
         """Notes an abort that was posted; one that was queued may land."""
@@ -511,19 +589,24 @@ class Follower:
 
     # What the cards say of a routine
 
-    def maker(self, number: int) -> Optional[Card]:
-        """The card of the entry that made a routine."""
-        return self.history.lines[number].card if number < len(self.history.lines) else None
-
     def program_of(self, kind: str, number: int) -> str:
-        card = self.maker(number)
-        if card is None:
-            return ""
-        return card.value("ESTAI") if kind == "ESTAI" else card.value("PGM")
+        return self.card_of(number, "ESTAI" if kind == "ESTAI" else "PGM")
 
     def card_of(self, number: int, key: str) -> str:
-        card = self.maker(number)
+        card = self.history.maker(number)
         return card.value(key) if card is not None else ""
+
+
+def end_all(some: List[Registration], index: int) -> None:
+    """Routines are gone from an entry on."""
+    for one in some:
+        one.ended = index
+
+
+def drop(own: List[Registration], some: List[Registration], index: int) -> None:
+    """Some of a unit's routines are gone from an entry on."""
+    end_all(some, index)
+    own[:] = [one for one in own if one not in some]
 
 
 def follow(deck: Deck, trace: Trace) -> History:

@@ -8,7 +8,7 @@ from typing import List, Optional, Union
 from . import rules
 from .history import History, Line
 from .rules import Rule
-from .trace import MASTER
+from .trace import MASTER, by_verb
 
 # Advances in pixels, measured: a label's letter, a trace line's letter, a chip's letter.
 LABEL_LETTER = 6.321
@@ -92,8 +92,7 @@ def cut_to(items: List[Item], whole: float) -> List[Item]:
 
 
 def flags(line: Line) -> List[Item]:
-    mark = line.entry.mark
-    return [Chip(flag, "flag") for flag in mark.flags] if mark is not None else []
+    return [Chip(flag, "flag") for flag in line.entry.mark.flags]
 
 
 def items_of(line: Line) -> List[Item]:
@@ -116,17 +115,15 @@ def of_exec(line: Line) -> List[Item]:
 
 
 def of_error(line: Line) -> List[Item]:
-    mark = line.entry.mark
     text = line.card.text if line.card is not None else "(end of %s)" % line.program_end
     items: List[Item] = [Word(text, "card error", may_be_cut=True)]
-    if mark is not None and (line.card is None or line.card.operation != "ABEND"):
-        items.append(Word(": " + mark.code, "card error"))
+    if line.card is None or line.card.operation != "ABEND":
+        items.append(Word(": " + line.entry.mark.code, "card error"))
     return items + flags(line)
 
 
 def of_land(line: Line) -> List[Item]:
-    mark = line.entry.mark
-    code = mark.code if mark is not None else ""
+    code = line.entry.mark.code
     items: List[Item] = [Word("%s %s" % (line.entry.kind, code), "card error")]
     items += flags(line)
     if rules.is_term_only(line.entry.kind, code):
@@ -139,7 +136,7 @@ def of_enter(line: Line) -> List[Item]:
     items: List[Item] = [Word(entry.kind, "kind " + entry.kind.lower())]
     if line.routine:
         items.append(Word(line.routine, "card bold"))
-    items.append(Word(entry.mark.code if entry.mark is not None else "", "card"))
+    items.append(Word(entry.mark.code, "card"))
     items += flags(line)
     if entry.without_sdwa:
         items.append(Chip("NOSDWA", "code"))
@@ -190,11 +187,7 @@ def of_memend(line: Line) -> List[Item]:
     return [Word("MEMEND", "card bold")]
 
 
-MAKERS = {
-    "EXEC": of_exec, "ERROR": of_error, "LAND": of_land, "ENTER": of_enter, "LEAVE": of_leave,
-    "ARRIVE": of_arrive, "BEGIN": of_begin, "RELEASE": of_release, "DONE": of_done, "PURGE": of_purge,
-    "MEMEND": of_memend,
-}
+MAKERS = by_verb("of_", globals())
 
 
 def runs(history: History, unit: str) -> str:

@@ -32,6 +32,7 @@ KEYS = (
     Key("kind-edge frr", 7, '<path class="kind-edge frr" d="M1.5 2v14M5 2v14"/>', "FRR", "frr"),
     Key("kind-edge estai", 5, '<path class="kind-edge estai" d="M2 2v14"/>', "ESTAI", "estai"),
     Key("kind-edge mgr", 5, '<path class="kind-edge mgr" d="M2 2v14"/>', "MGR, a resource manager", "mgr"),
+    Key("no-sdwa", 20, '<path class="no-sdwa" d="M0.5 14.5V3.5h19v11z"/>', "head of a routine without an SDWA"),
     Key("retry-arrow", 22,
         '<path class="retry-arrow" d="M1 3q0 6 5 6h8"/><path class="retry-head" d="M20 9l-7 -4v8z"/>',
         "retry: goes on"),

@@ -155,7 +155,7 @@ def moments_of(rtmrun: Rtmrun, swept: Swept, first: int, last: Optional[int],
 def run_moment(rtmrun: Rtmrun, swept: Swept, at: int) -> Moment:
     """Runs the deck with its command at one moment."""
     text = swept.at(at)
-    return read_moment(follow(read_deck(text), read_trace(rtmrun.run(text))), swept, at)
+    return read_moment(follow(read_deck(text), read_trace(rtmrun.run(text))), swept.unit, swept.number, at)
 
 
 def run_moments(rtmrun: Rtmrun, swept: Swept, moments: List[int], jobs: int,
@@ -169,10 +169,11 @@ def run_moments(rtmrun: Rtmrun, swept: Swept, moments: List[int], jobs: int,
 
 # What a trace says of the command
 
-def read_moment(history: History, swept: Swept, at: int) -> Moment:
+def read_moment(history: History, unit: str, number: int, at: int) -> Moment:
+    """What became of the command of that number, which is the unit's."""
     moment = Moment(at, end=history.trace.end)
-    own = [entry for entry in history.trace.entries if entry.unit == swept.unit]
-    arrival = next((entry for entry in own if entry.verb == "ARRIVE" and entry.number == swept.number), None)
+    own = [entry for entry in history.trace.entries if entry.unit == unit]
+    arrival = next((entry for entry in own if entry.verb == "ARRIVE" and entry.number == number), None)
     if arrival is not None:
         moment.fate, moment.arrived = arrival.fate, arrival.index
         landing = next((entry for entry in own if entry.verb == "LAND" and entry.kind == "CANCEL"
@@ -180,9 +181,26 @@ def read_moment(history: History, swept: Swept, at: int) -> Moment:
         if landing is not None:
             read_landing(history, own, landing, moment)
     moment.released = ["%s %d" % (entry.kind, entry.number) for entry in history.trace.entries
-                       if entry.verb == "RELEASE" and entry.owner == swept.unit]
-    moment.code = final_code(history, swept.unit)
+                       if entry.verb == "RELEASE" and entry.owner == unit]
+    moment.code = final_code(history, unit)
     return moment
+
+
+def check_routine(deck: bytes, routine: Optional[str]) -> None:
+    """A routine that is required has to be a program of the deck."""
+    if routine is not None and routine not in read_deck(deck).programs:
+        raise Failure("the deck has no program %s, so it can't be required" % routine, WRONG_WORDS)
+
+
+def is_entered(moment: Moment, routine: str) -> bool:
+    """Whether a routine was entered from the landing on."""
+    return any(one.routine == routine for one in moment.entered)
+
+
+def row_key(moment: Moment) -> Tuple[object, ...]:
+    """What is the same at moments that are told as one."""
+    return (moment.fate, moment.landed is None, moment.inside, moment.waited > 0, tuple(moment.entered),
+            tuple(moment.released), moment.code, moment.end)
 
 
 def read_landing(history: History, own: List[Entry], landing: Entry, moment: Moment) -> None:

@@ -86,7 +86,7 @@ def style(picture: Picture, beside: bool) -> str:
         text += ("@media screen and (max-width:%spx){li{background:var(--ground);padding-left:0}"
                  "li .line{position:sticky;left:0;z-index:2;display:inline-block;background:inherit;"
                  "padding-left:12px;width:%spx}li.edge-line .line{padding-left:calc(12px + %dch)}"
-                 "li.edge-line{padding-left:0}"
+                 "li.edge-line{padding-left:0}.part.first li:first-child .line{box-shadow:0 -10px var(--ground)}"
                  ".lane-names .trace-name{position:sticky;left:0;top:0;display:inline-block;"
                  "padding:4px 0 0 12px;width:%spx;background:var(--ground);z-index:4}}") % (
             width, number(layout.text_right), letters + 1, number(layout.text_right))

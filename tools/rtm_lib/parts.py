@@ -75,6 +75,8 @@ def counts(picture: Picture) -> str:
     unborn = [unit.name for unit in history.deck.units if unit.name not in history.lanes]
     if unborn:
         words.append("never born: " + (", ".join(unborn) if len(unborn) < 6 else str(len(unborn))))
+    if not history.deck.sdwa:
+        words.append("REGION SDWA=NO")
     if picture.verdict.is_legal:
         words.append(history.trace.end)
     return " \u00b7 ".join(words)

@@ -7,7 +7,7 @@ from typing import Dict, List, Optional
 from . import rules
 from .deck import Card
 from .history import ErrorThread, History, Line
-from .trace import MASTER
+from .trace import MASTER, by_verb
 
 # Names of system completion codes; a code without one stands alone.
 CODE_NAMES: Dict[str, str] = {
@@ -19,11 +19,13 @@ CODE_NAMES: Dict[str, str] = {
     "S07D": "too many FRRs", "SA03": "ended while a subtask lived", "SEE1": "too many request blocks",
     "SEE2": "too many ESTAE routines", "SEE3": "a routine made in the 16th bracket", "SEE4": "too many holdings",
     "SEE5": "too many resource managers", "SEE6": "a card for recovery routines outside of one",
-    "SEE7": "a card for an SDWA in a routine that has none",
+    "SEE7": "a card that wants an SDWA, in a routine without one",
 }
 ORDINALS = ("first", "second", "third", "fourth", "fifth", "sixth", "seventh", "eighth", "ninth", "tenth")
 POSTED_WORDS = {"QUEUED": "it is pending there", "MERGED": "one of its class was pending already",
                 "LATE": "too late, the task wasn't alive or was ending"}
+ASKED_WORDS = {0: "the next routine is to be asked", 4: "a retry is asked for",
+               16: "no further ESTAI routine is to be asked"}
 FLAG_WORDS = {"CLUP": "CLUP: retry is forbidden.", "PERC": "PERC: an earlier routine has percolated.",
               "STAF": "STAF: an earlier routine has failed."}
 
@@ -139,10 +141,19 @@ def returns(history: History, line: Line, card: Card) -> str:
     return "Its request block ends."
 
 
+def asks(history: History, line: Line, card: Card) -> str:
+    """What a routine asks for by SETRP, or by a return code in register 15."""
+    code, label = card.return_code, card.value("RETADDR")
+    if code is None:
+        return "A retry would go on at %s." % label if label else ""
+    asked = ASKED_WORDS[code] + (", at %s" % label if label and code == 4 else "")
+    return "%s: %s." % ("It leaves %d in register 15" % code if card.operation == "RET15" else "RC=%d" % code, asked)
+
+
 CARD_WORDS = {
     "ESTAEX": names_routine, "SETFRR": names_routine, "RESMGR": names_routine, "GET": holds, "FREE": frees,
     "LINK": links, "XCTL": links, "ATTACHX": bears, "SCHEDULE": bears, "DETACH": posts, "CALLRTM": posts,
-    "IFCODE": branches, "IFCLUP": branches, "IFPERC": branches, "RETURN": returns,
+    "IFCODE": branches, "IFCLUP": branches, "IFPERC": branches, "RETURN": returns, "SETRP": asks, "RET15": asks,
 }
 
 
@@ -150,7 +161,7 @@ CARD_WORDS = {
 
 def of_error(history: History, line: Line) -> str:
     entry = line.entry
-    code = entry.mark.code if entry.mark is not None else ""
+    code = entry.mark.code
     card = " (%s)" % line.card.text if line.card is not None else ""
     return "an error of %s at %s%s: %s. %s" % (
         unit_name(entry.unit), entry.place, card, code_words(code), error_end(history, line))
@@ -158,10 +169,10 @@ def of_error(history: History, line: Line) -> str:
 
 def of_land(history: History, line: Line) -> str:
     entry = line.entry
-    code = entry.mark.code if entry.mark is not None else ""
+    code = entry.mark.code
     said = "the abort that entry %d posted lands in %s: %s." % (
         entry.number, unit_name(entry.unit), code_words(code))
-    if entry.mark is not None and "CLUP" in entry.mark.flags:
+    if "CLUP" in entry.mark.flags:
         said += " Retry is forbidden."
     if rules.is_term_only(entry.kind, code):
         said += " By a rule (docs/MACHINE.md, section %d) only routines made with TERM=YES are asked." % (
@@ -198,7 +209,7 @@ def end_words(history: History, error: ErrorThread) -> str:
 
 def of_enter(history: History, line: Line) -> str:
     entry = line.entry
-    code = entry.mark.code if entry.mark is not None else ""
+    code = entry.mark.code
     name = routine_name(line)
     if entry.kind == "MGR":
         return "the resource manager %s, which entry %d added, is entered for the end with %s." % (
@@ -206,11 +217,11 @@ def of_enter(history: History, line: Line) -> str:
     said = "%s, which entry %d %s, is entered for %s; this error asks it as the %s." % (
         name, entry.number, "named for this task" if entry.kind == "ESTAI" else "made", code_words(code),
         ordinal(line.ordinal))
-    words = [FLAG_WORDS[flag] for flag in (entry.mark.flags if entry.mark is not None else ()) if flag in FLAG_WORDS]
+    words = [FLAG_WORDS[flag] for flag in entry.mark.flags if flag in FLAG_WORDS]
     if began_as(history, line):
         words.append("The error began as %s." % began_as(history, line))
     if entry.without_sdwa:
-        words.append("It has no SDWA.")
+        words.append("It has no SDWA: %s (docs/MACHINE.md, section %d)." % (rules.NO_SDWA.says, rules.NO_SDWA.section))
     if line.shield is rules.NOT_CANCELLED:
         words.append("Its card says CANCEL=NO: no abort lands while it runs (docs/MACHINE.md, section %d)." % (
             line.shield.section))
@@ -219,10 +230,10 @@ def of_enter(history: History, line: Line) -> str:
 
 def began_as(history: History, line: Line) -> str:
     """The code that the error began with, where this line shows another."""
-    if line.error is None or line.entry.mark is None:
+    if line.error is None:
         return ""
-    first = history.lines[line.error.born].entry.mark
-    return first.code if first is not None and first.code != line.entry.mark.code else ""
+    first = history.lines[line.error.born].entry.mark.code
+    return first if first != line.entry.mark.code else ""
 
 
 def of_leave(history: History, line: Line) -> str:
@@ -298,11 +309,7 @@ def of_memend(history: History, line: Line) -> str:
     return "the address space has ended."
 
 
-MAKERS = {
-    "EXEC": of_exec, "ERROR": of_error, "LAND": of_land, "ENTER": of_enter, "LEAVE": of_leave,
-    "ARRIVE": of_arrive, "BEGIN": of_begin, "RELEASE": of_release, "DONE": of_done, "PURGE": of_purge,
-    "MEMEND": of_memend,
-}
+MAKERS = by_verb("of_", globals())
 
 
 def refers_to(line: Line) -> List[int]:
@@ -328,10 +335,10 @@ def refers_to_card(history: History, line: Line) -> Optional[int]:
     if entry.verb == "ARRIVE" and entry.number < len(history.deck.commands):
         return history.deck.commands[entry.number].number
     if entry.verb == "LEAVE" and entry.place is not None:
-        goes_on = history.deck.card(entry.place.program, entry.place.number)
+        goes_on = history.deck.card(entry.place)
         return goes_on.number if goes_on is not None else None
-    if entry.verb in ("ENTER", "LEAVE") and entry.number < len(history.lines):
-        maker = history.lines[entry.number].card
+    if entry.verb in ("ENTER", "LEAVE"):
+        maker = history.maker(entry.number)
         return maker.number if maker is not None else None
     owner = entry.owner if entry.verb in ("RELEASE", "PURGE") else entry.unit
     described = history.deck.unit(owner)

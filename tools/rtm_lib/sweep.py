@@ -8,18 +8,18 @@ import shlex
 import sys
 from dataclasses import dataclass
 from pathlib import Path
-from typing import Any, Callable, Dict, List, Optional, Sequence, Tuple
+from typing import Any, Dict, List, Optional, Sequence
 
-from .deck import read_deck
-from .failures import CANNOT_READ, Failure, OK, WRONG_WORDS
+from .failures import CANNOT_READ, Failure, NOT_ENTERED, OK, WRONG_WORDS
 from .files import STDIN, read_file, write
-from .moments import NEVER, Moment, Swept, moments_of, prepare, run_moment, run_moments
-from .parts import many
+from .moments import (NEVER, Moment, Swept, check_routine, is_entered, moments_of, prepare, row_key, run_moment,
+                      run_moments)
 from .program import Rtmrun, find
+from .progress import progress
+from .sweep_orders import sweep_orders
 from .sweep_page import sweep_page
+from .sweep_words import Range, aligned, landing_words, ranges, row_of
 
-NOT_ENTERED = 1
-PROGRESS_FROM = 200
 COLUMNS = ("AT", "lands", "routines entered from then on", "released", "ends with")
 
 
@@ -33,26 +33,16 @@ class Sweep:
     moments: List[Moment]
 
 
-@dataclass
-class Range:
-    """Neighbouring moments at which the same became of the command."""
-
-    moments: List[Moment]
-
-    @property
-    def name(self) -> str:
-        first, last = self.moments[0].at, self.moments[-1].at
-        return str(first) if first == last else "%d to %d" % (first, last)
-
-
 def sweep(arguments: argparse.Namespace) -> int:
     """Runs, gathers or plans, and ends with 1 where a routine that is required isn't entered."""
+    if arguments.orders:
+        return sweep_orders(arguments)
     if arguments.gather:
         found = gathered(read_file(arguments.deck))
     else:
         rtmrun = find(arguments.rtmrun)
         swept = prepare(read_file(arguments.deck), arguments.command)
-        check_routine(swept, arguments.require)
+        check_routine(swept.base, arguments.require)
         if arguments.at is not None:
             return print_one(rtmrun, swept, arguments)
         moments, there_are = moments_of(rtmrun, swept, arguments.first, arguments.last, arguments.all)
@@ -62,7 +52,7 @@ def sweep(arguments: argparse.Namespace) -> int:
         if arguments.plan:
             write(arguments.output, plan(arguments, swept, moments, said))
             return OK
-        runs = run_moments(rtmrun, swept, moments, arguments.jobs, progress_to(len(moments)))
+        runs = run_moments(rtmrun, swept, moments, arguments.jobs, progress(len(moments)))
         found = Sweep(swept.command, swept.unit, said, list(runs))
     write(arguments.output, shown(found, arguments))
     return required(found, arguments.require)
@@ -82,32 +72,12 @@ def title_of(name: str) -> str:
     return "sweep" if name == STDIN else Path(name).stem
 
 
-def check_routine(swept: Swept, routine: Optional[str]) -> None:
-    if routine is not None and routine not in read_deck(swept.base).programs:
-        raise Failure("the deck has no program %s, so it can't be required" % routine, WRONG_WORDS)
-
-
-def progress_to(number: int) -> Callable[[int], None]:
-    """Tells a person at the terminal how far a long sweep is."""
-    if number < PROGRESS_FROM or not sys.stderr.isatty():
-        return lambda done: None
-
-    def tell(done: int) -> None:
-        if done % 50 == 0 or done == number:
-            print("\rrtm: %d of %d" % (done, number), end="\n" if done == number else "", file=sys.stderr, flush=True)
-    return tell
-
-
 def required(found: Sweep, routine: Optional[str]) -> int:
     """1 where the command landed at some moment and the routine wasn't entered."""
     if routine is None:
         return OK
     landed = [moment for moment in found.moments if moment.landed is not None]
     return OK if all(is_entered(moment, routine) for moment in landed) else NOT_ENTERED
-
-
-def is_entered(moment: Moment, routine: str) -> bool:
-    return any(one.routine == routine for one in moment.entered)
 
 
 # Many hosts
@@ -165,48 +135,8 @@ def table(found: Sweep, routine: Optional[str]) -> str:
     lines = [head_of(found)]
     lines += ["(%s)" % one for one in found.said]
     lines += [""] + answers(found, routine) + [""]
-    rows = [COLUMNS] + [row_of(one) for one in ranges(found.moments, row_key)]
-    widths = [max(len(row[column]) for row in rows) for column in range(len(COLUMNS))]
-    lines += ["  ".join(cell.ljust(width) for cell, width in zip(row, widths)).rstrip() for row in rows]
+    lines += aligned([COLUMNS] + [row_of(one) for one in ranges(found.moments, row_key)])
     return "\n".join(lines) + "\n"
-
-
-def ranges(moments: Sequence[Moment], key: Callable[[Moment], object]) -> List[Range]:
-    """Neighbours with the same key."""
-    found: List[Range] = []
-    for moment in moments:
-        if found and key(found[-1].moments[0]) == key(moment):
-            found[-1].moments.append(moment)
-        else:
-            found.append(Range([moment]))
-    return found
-
-
-def row_key(moment: Moment) -> Tuple[object, ...]:
-    return (moment.fate, moment.landed is None, moment.inside, moment.waited > 0, tuple(moment.entered),
-            tuple(moment.released), moment.code, moment.end)
-
-
-def row_of(one: Range) -> Tuple[str, ...]:
-    moment = one.moments[0]
-    routines = ", ".join("%s %s" % (entered.routine, entered.verdict or "(not left)") for entered in moment.entered)
-    ends = moment.code + ("" if moment.end == "END ENDED" else ", " + moment.end)
-    return (one.name, landing_words(one), routines or "-", ", ".join(moment.released) or "-", ends)
-
-
-def landing_words(one: Range) -> str:
-    """Where the command landed; of one that waited, behind which line of its unit, and how long."""
-    moment = one.moments[0]
-    if moment.fate == NEVER:
-        return "it doesn't arrive"
-    if moment.landed is None:
-        return "merged with an earlier one" if moment.fate == "MERGED" else "it doesn't land"
-    where = "in %s" % moment.inside if moment.inside else "as the unit begins"
-    waits = sorted({each.waited for each in one.moments})
-    if waits[-1] == 0:
-        return where
-    how_long = many(waits[0], "entry", "entries") if len(waits) == 1 else "%d to %d entries" % (waits[0], waits[-1])
-    return "%s, after it waited %s, behind %s" % (where, how_long, moment.before or "no line")
 
 
 # The answer

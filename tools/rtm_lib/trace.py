@@ -8,20 +8,18 @@ from __future__ import annotations
 
 import re
 from dataclasses import dataclass, field
-from typing import Callable, Dict, List, Optional, Tuple
+from typing import Any, Callable, Dict, List, Optional, Tuple
+
+from .deck import Place, lines_of
 
 MASTER = "*"
+# The third word of a line.
+VERBS = ("EXEC", "ERROR", "LAND", "ENTER", "LEAVE", "ARRIVE", "BEGIN", "RELEASE", "DONE", "PURGE", "MEMEND")
 
 
-@dataclass(frozen=True)
-class Place:
-    """A program and the number of one of its operations."""
-
-    program: str
-    number: int
-
-    def __str__(self) -> str:
-        return "%s.%d" % (self.program, self.number)
+def by_verb(prefix: str, functions: Dict[str, Any]) -> Dict[str, Callable[..., Any]]:
+    """For each verb the function that is named for it, as of_exec for EXEC."""
+    return {verb: functions[prefix + verb.lower()] for verb in VERBS}
 
 
 @dataclass(frozen=True)
@@ -43,6 +41,7 @@ class Entry:
     words: Tuple[str, ...]
     place: Optional[Place] = None
     return_code: int = 0
+    # ERROR, LAND, ENTER; in all other lines it is empty.
     mark: Mark = Mark("")
     # ENTER, LEAVE: the kind of routine. LAND: the class of the abort. RELEASE: the class of the resource.
     kind: str = ""
@@ -144,11 +143,7 @@ def read_memend(words: Tuple[str, ...]) -> Dict[str, object]:
     return {}
 
 
-READERS: Dict[str, Callable[[Tuple[str, ...]], Dict[str, object]]] = {
-    "EXEC": read_exec, "ERROR": read_error, "LAND": read_land, "ENTER": read_enter, "LEAVE": read_leave,
-    "ARRIVE": read_arrive, "BEGIN": read_begin, "RELEASE": read_release, "DONE": read_done,
-    "PURGE": read_purge, "MEMEND": read_memend,
-}
+READERS: Dict[str, Callable[[Tuple[str, ...]], Dict[str, object]]] = by_verb("read_", globals())
 
 
 def read_entry(line: str) -> Entry:
@@ -163,9 +158,7 @@ def read_entry(line: str) -> Entry:
 
 def read_trace(text: bytes, count: Optional[int] = None) -> Trace:
     """Reads the first line, so many entries (or all), and the last line."""
-    lines = text.decode("latin-1").split("\n")
-    if lines and not lines[-1]:
-        lines.pop()
+    lines = lines_of(text)
     trace = Trace(lines[0] if lines else "")
     if not re.fullmatch(r"RTMTRACE \d+", trace.head):
         raise NotUnderstood(trace.head)

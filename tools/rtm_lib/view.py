@@ -7,20 +7,20 @@ import sys
 from pathlib import Path
 from typing import List, Optional, Tuple
 
-from .deck import Deck, read_deck, split_input
+from .deck import Deck
 from .drawing import draw
-from .failures import CANNOT_READ, Failure, WRONG_WORDS
-from .files import STDIN, read_file, write
+from .failures import Failure, WRONG_WORDS
+from .files import STDIN, write
 from .folds import folded_rows
-from .history import History, follow
+from .history import History
+from .judged import Judged, judge, read_input
 from .layout import PAGE, lay_out
 from .overview import strip_of, strip_width
 from .page import page
 from .parts import Picture
-from .program import Verdict, find
+from .program import find
 from .rows import Rows, all_rows
 from .svg import svg
-from .trace import NotUnderstood, Trace, read_trace
 
 # Longer traces are folded, where neither --all nor a part was asked for.
 FOLDED_FROM = 1500
@@ -31,64 +31,24 @@ MOST_ROWS = 3000
 def view(arguments: argparse.Namespace) -> int:
     """Draws, and ends with the status of `verify`: 0 where all was legal."""
     rtmrun = find(arguments.rtmrun)
-    deck_text, trace_text = read_input(arguments.deck, arguments.trace)
-    if not trace_text:
-        trace_text = rtmrun.run(deck_text)
-    verdict = rtmrun.verify(deck_text, trace_text)
-    picture, strip = make_picture(arguments, deck_text, trace_text, verdict)
+    judged = judge(rtmrun, *read_input(arguments.deck, arguments.trace))
+    picture, strip = make_picture(arguments, judged)
     write(arguments.output, svg(picture) if arguments.svg else page(picture, strip))
-    if not verdict.is_legal:
-        print("rtm: %s" % verdict.line, file=sys.stderr)
-    return verdict.status
+    if not judged.verdict.is_legal:
+        print("rtm: %s" % judged.verdict.line, file=sys.stderr)
+    return judged.verdict.status
 
 
-def read_input(deck_name: str, trace_name: Optional[str]) -> Tuple[bytes, bytes]:
-    """The deck, and the trace that was named or that stands behind the deck's END card."""
-    if deck_name == STDIN and trace_name == STDIN:
-        raise Failure("only one of deck and trace can be -; or give both behind one another as one -", WRONG_WORDS)
-    deck_text, behind = split_input(read_file(deck_name))
-    if trace_name is None:
-        return deck_text, behind
-    if behind.strip():
-        raise Failure("lines stand behind the END card of %s, and a trace was named as well" % deck_name, WRONG_WORDS)
-    trace_text = read_file(trace_name)
-    if not trace_text:
-        raise Failure("%s is empty" % trace_name, CANNOT_READ)
-    return deck_text, trace_text
-
-
-def make_picture(arguments: argparse.Namespace, deck_text: bytes, trace_text: bytes,
-                 verdict: Verdict) -> Tuple[Picture, str]:
+def make_picture(arguments: argparse.Namespace, judged: Judged) -> Tuple[Picture, str]:
     """The picture, and where it is folded the strip of all entries."""
-    if verdict.legal == 0 and not verdict.is_legal:
-        raise Failure("nothing of this trace is legal, so nothing can be drawn: %s" % verdict.line, verdict.status)
-    deck = read_deck(deck_text)
-    history = follow(deck, legal_part(trace_text, verdict))
-    rows, note = choose_rows(arguments, deck, history)
+    rows, note = choose_rows(arguments, judged.deck, judged.history)
     if not rows.rows:
         raise Failure("no entry of the trace is in the part that was asked for", WRONG_WORDS)
     has_strip = not arguments.svg and not is_part(arguments) and not rows.is_whole
     layout = lay_out(rows, PAGE - strip_width(rows)) if has_strip else lay_out(rows)
     title = "deck" if arguments.deck == STDIN else Path(arguments.deck).stem
-    picture = Picture(title, layout, draw(layout), verdict, wrong_line(trace_text, verdict), note)
+    picture = Picture(title, layout, draw(layout), judged.verdict, judged.wrong_line, note)
     return picture, strip_of(rows) if has_strip else ""
-
-
-def legal_part(trace_text: bytes, verdict: Verdict) -> Trace:
-    """The entries before the first wrong one."""
-    try:
-        return read_trace(trace_text, verdict.legal)
-    except NotUnderstood as line:
-        raise Failure("rtmrun accepts this line of the trace, and rtm doesn't know it: %s" % line,
-                      CANNOT_READ) from None
-
-
-def wrong_line(trace_text: bytes, verdict: Verdict) -> str:
-    """The first line that isn't legal, if there is one."""
-    if verdict.is_legal:
-        return ""
-    lines = trace_text.decode("latin-1").split("\n")
-    return lines[verdict.legal + 1] if verdict.legal + 1 < len(lines) else ""
 
 
 def is_part(arguments: argparse.Namespace) -> bool:

@@ -64,7 +64,8 @@ class Generator:
     def answer(self, own: str) -> str:
         label = self.labels[self.program()]
         return self.choose("SETRP RC=4,RETADDR=" + label, "SETRP RC=4,RETADDR=%s,REMREC=YES" % label, "SETRP RC=0",
-                           "SETRP RC=16", "SETRP COMPCOD=U99,RECORD=YES,DUMP=YES")
+                           "SETRP RC=16", "SETRP COMPCOD=U99,RECORD=YES,DUMP=YES", "RET15 4,RETADDR=" + label,
+                           "RET15 0", "RET15 16")
 
     def branch(self, own: str) -> str:
         return self.choose("IFCLUP " + self.labels[own], "IFPERC " + self.labels[own],
@@ -83,7 +84,8 @@ class Generator:
 
     def deck(self) -> bytes:
         """The whole deck."""
-        lines: List[str] = ["* A random deck.", " REGION LIMIT=%d" % self.random.choice([60, 120, 200, 300])]
+        region = " REGION LIMIT=%d%s" % (self.random.choice([60, 120, 200, 300]), self.choose("", "", ",SDWA=NO"))
+        lines: List[str] = ["* A random deck.", region]
         for name in self.programs:
             cards = [self.card(name) for _ in range(self.random.randint(2, 8))]
             if name == self.programs[0]:

@@ -83,9 +83,25 @@
     if (document.activeElement !== all[all.length - 1]) { wrong.push('End does not go to the last line'); }
     press('Home');
     if (document.activeElement !== all[0]) { wrong.push('Home does not go to the first line'); }
+    all.forEach(function (line) {
+      press('ArrowDown');
+      shown(document.activeElement);
+    });
+    all.forEach(function (line) {
+      press('ArrowUp');
+      shown(document.activeElement);
+    });
     press('e');
     if (document.querySelector('.verb-error') && !document.activeElement.querySelector('.verb-error')) {
       wrong.push('e does not find an error');
+    }
+  }
+  function shown(line) {
+    var own = line.getBoundingClientRect();
+    var head = document.querySelector('thead th').getBoundingClientRect();
+    if (own.bottom > line.querySelector('.said').getBoundingClientRect().top + slack ||
+        (own.top < head.bottom - slack && own.bottom > head.top + slack)) {
+      wrong.push('the focused line ' + line.id + ' is covered');
     }
   }
   function pointing() {

@@ -74,7 +74,7 @@ class PagesTest(WithProgram):
             measured = page.with_name(name + "-measured.html")
             measured.write_bytes(page.read_bytes().replace(b"</body>", script))
             for width in WIDTHS:
-                frames += '<iframe style="width:%dpx;height:900px" src="%s#%s-%d"></iframe>' % (
+                frames += '<iframe style="width:%dpx;height:420px" src="%s#%s-%d"></iframe>' % (
                     width, measured.name, name, width)
         return frames
 

@@ -7,6 +7,7 @@ from typing import Iterator, List, Optional, Tuple
 
 from rtm_lib.folds import folded_rows
 from rtm_lib.history import History
+from rtm_lib.legend import keys_of
 from rtm_lib.parts import Picture
 from rtm_lib.page import page
 from rtm_lib.rows import ROW, all_rows
@@ -122,6 +123,27 @@ class PictureTest(WithProgram):
                     _, drawing = drawn(history, rows)
                     self.assertEqual(list(overlapping(drawing.canvas.texts)), [], (name, unit))
                     self.assertEqual(list(struck(drawing.canvas.texts, drawing.canvas.strokes)), [], (name, unit))
+
+    def test_who_is_entered_is_there(self) -> None:
+        for name, history in self.histories():
+            for entry in history.trace.entries:
+                if entry.verb in ("ENTER", "LEAVE"):
+                    there = [one for one in history.registrations if one.unit == entry.unit
+                             and (one.kind, one.number) == (entry.kind, entry.number) and one.is_there(entry.index)]
+                    self.assertEqual(len(there), 1, (name, entry.line))
+                if entry.verb == "DONE":
+                    left = [one for one in history.registrations if one.unit == entry.unit and one.ended is None]
+                    self.assertEqual(left, [], (name, entry.line))
+
+    def test_a_routine_without_an_sdwa_is_marked(self) -> None:
+        for name, history in self.histories():
+            _, drawing = drawn(history)
+            bare = [entry for entry in history.trace.entries if entry.without_sdwa]
+            marks = sum(shape.markup.count('class="no-sdwa"') for shape in drawing.canvas.shapes)
+            self.assertEqual(marks, len(bare), name)
+            self.assertEqual("head of a routine without an SDWA" in [key.meaning for key in keys_of(drawing.canvas)],
+                             bool(bare), name)
+            self.assertFalse(bare and history.deck.sdwa, name)
 
     def test_folds_hide_nothing_that_must_be_seen(self) -> None:
         for name, history in self.histories():

@@ -4,9 +4,9 @@ from __future__ import annotations
 
 import unittest
 
-from rtm_lib.deck import opening_sentence, read_deck, split_input
+from rtm_lib.deck import Place, opening_sentence, read_deck, split_input
 from rtm_lib.labels import cut
-from rtm_lib.trace import Mark, NotUnderstood, Place, read_entry, read_trace
+from rtm_lib.trace import Mark, NotUnderstood, read_entry, read_trace
 
 DECK = (b"* What it shows. And more,\n* in a second line.\n\nMAIN PROG a remark\n ESTAEX CT,PGM=FIX,TERM=YES  remark\n"
         b"* between\nGO RETURN this is a remark\n PEND\nIO SRB PGM=MAIN,TASK=JOB\nJOB TASK PGM=MAIN\n OPER\n"
@@ -18,16 +18,24 @@ class DeckTest(unittest.TestCase):
 
     def test_cards_are_found_by_program_and_number(self) -> None:
         deck = read_deck(DECK)
-        first, second = deck.card("MAIN", 1), deck.card("MAIN", 2)
+        first, second = deck.card(Place("MAIN", 1)), deck.card(Place("MAIN", 2))
         assert first is not None and second is not None
         self.assertEqual((first.number, first.text), (5, "ESTAEX CT,PGM=FIX,TERM=YES"))
         self.assertEqual((second.number, second.name, second.text), (7, "GO", "RETURN"))
         self.assertEqual((first.positional(0), first.positional(1), first.value("PGM"), first.value("XCTL")),
                          ("CT", "", "FIX", ""))
-        self.assertIsNone(deck.card("MAIN", 3))
+        self.assertIsNone(deck.card(Place("MAIN", 3)))
+        self.assertIsNone(deck.card(None))
         self.assertEqual([unit.name for unit in deck.units], ["IO", "JOB"])
         self.assertEqual(deck.job_step, "JOB")
         self.assertEqual(len(deck.commands), 1)
+
+    def test_what_region_says(self) -> None:
+        for text, limit, sdwa in ((b"", 20000, True), (b" REGION LIMIT=7\n", 7, True),
+                                  (b" REGION SDWA=NO\n", 20000, False),
+                                  (b"* first\n REGION SDWA=YES,LIMIT=0010 remark\n", 10, True)):
+            deck = read_deck(text + DECK)
+            self.assertEqual((deck.limit, deck.sdwa), (limit, sdwa))
 
     def test_the_opening_sentence(self) -> None:
         self.assertEqual(opening_sentence(read_deck(DECK)), "What it shows.")

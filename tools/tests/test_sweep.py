@@ -12,12 +12,17 @@ from typing import List
 
 from rtm_lib.failures import Failure
 from rtm_lib.moments import prepare
+from rtm_lib.orders import LATEST, Walk, try_all
+from rtm_lib.trace import read_trace
 
 from .decks import random_deck
 from .support import EXAMPLES, WithProgram, run_companion
 
 CANCEL = EXAMPLES / "cancel.deck"
 SMALL = b"MAIN PROG\n NOP\n PEND\nJOB TASK PGM=MAIN\n END\n"
+TWO_COMMANDS = (b"MAIN PROG\n ATTACHX A\n NOP\n WAITT A\n PEND\nWORK PROG\n ESTAEX CT,PGM=TIDY,TERM=YES\n NOP\n PEND\n"
+                b"TIDY PROG\n NOP\n PEND\nJOB TASK PGM=MAIN\nA TASK PGM=WORK\n OPER\n CANCEL A\n"
+                b" CANCEL JOB,AT=3\n END\n")
 RANDOM_DECKS = 5
 
 
@@ -99,6 +104,34 @@ class SweepTest(WithProgram):
                                 for job in reversed(jobs)]
         self.assertEqual(self.sweep("-", "--gather", text=b"".join(printed)), self.sweep(*some))
         self.sweep("-", "--gather", text=b"no line of a job\n", status=16)
+
+    def test_all_orders_are_those_of_all_moments(self) -> None:
+        walk = Walk(self.rtmrun, TWO_COMMANDS)
+        found = set()
+        for first in (*range(14), LATEST):
+            for second in (*range(14), LATEST):
+                trace = read_trace(self.rtmrun.run(walk.deck_of(((0, first), (1, second)))))
+                found.add(tuple((entry.number, entry.index) for entry in trace.entries if entry.verb == "ARRIVE"))
+        self.assertLess(max(index for arrivals in found for _, index in arrivals), 14)
+        orders = try_all(self.rtmrun, TWO_COMMANDS, None, 2, lambda done: None)
+        self.assertEqual(orders.number, len(found))
+        for outcome in orders.outcomes:
+            self.assertIn(outcome.example, found)
+        self.assertEqual(orders.said, [])
+        fewer = try_all(self.rtmrun, TWO_COMMANDS, None, 2, lambda done: None, 40)
+        self.assertLessEqual(fewer.runs, 40)
+        self.assertIn("are tried, evenly spread; 40 runs are the most", fewer.said[-1])
+
+    def test_the_table_of_orders(self) -> None:
+        lines = self.sweep("-", "--orders", text=TWO_COMMANDS).splitlines()
+        self.assertTrue(lines[0].startswith("CANCEL A, CANCEL JOB: "), lines[0])
+        self.assertTrue(lines[2].startswith("TIDY is entered for a command in "), lines[2])
+        report = json.loads(self.sweep("-", "--orders", "--json", "--jobs", "2", text=TWO_COMMANDS))
+        self.assertEqual(report["orders"], sum(outcome["orders"] for outcome in report["outcomes"]))
+        self.sweep("-", "--orders", "--require", "TIDY", text=TWO_COMMANDS, status=1)
+        self.sweep("-", "--orders", "--require", "NOBODY", text=TWO_COMMANDS, status=20)
+        self.sweep("-", "--orders", "--html", text=TWO_COMMANDS, status=20)
+        self.assertIn("CANCEL JOB: ", self.sweep("-", "--orders", text=SMALL))
 
     def test_the_page_has_a_row_for_each_moment(self) -> None:
         page = self.sweep(str(CANCEL), "--html")

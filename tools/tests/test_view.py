@@ -58,6 +58,13 @@ class ViewTest(WithProgram):
         behind = self.page("-", text=Path(RETRY).read_bytes() + trace)
         self.assertEqual(behind.replace(">deck<", ">retry<"), page)
 
+    def test_routines_without_an_sdwa_are_said(self) -> None:
+        page = self.page(str(EXAMPLES / "nosdwa.deck"))
+        for said in ("NOSDWA", "REGION SDWA=NO", "It has no SDWA",
+                     "a card that wants an SDWA, in a routine without one",
+                     "It leaves 4 in register 15: a retry is asked for, at GOON."):
+            self.assertIn(said, page)
+
     def test_a_file_is_written(self) -> None:
         with tempfile.TemporaryDirectory() as folder:
             written = Path(folder) / "retry.html"
