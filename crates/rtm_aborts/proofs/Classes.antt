@@ -1,5 +1,6 @@
 -- A list of aborts with at most one of a class has at most six.
 use Rattle.std.proofs.Common.{◌≡◌, ℕ, ◌+◌, ◌<◌, ◌≤◌, Bool, true, false, cond, ◌||◌, List, [], ◌∷◌, ◌++◌, length, refl, ap, ◌∙◌, arith}
+use Rattle.std.proofs.lemmas.Bool.{or_parts}
 use Rattle.rtm_model.specs.declared.abort.Abort.{Abort}
 use Rattle.rtm_model.specs.declared.entry.Class.{Class}
 use Rattle.rtm_model.specs.declared.entry.Class.TheVariants.{Cancel, Detach, Mother, Step, Abterm, Srb}
@@ -64,22 +65,17 @@ same_either_way Step other = elim other as (λ o. is_same_class Step o ≡ is_sa
 same_either_way Abterm other = elim other as (λ o. is_same_class Abterm o ≡ is_same_class o Abterm) [ Cancel ↦ refl | Detach ↦ refl | Mother ↦ refl | Step ↦ refl | Abterm ↦ refl | Srb ↦ refl ]
 same_either_way Srb other = elim other as (λ o. is_same_class Srb o ≡ is_same_class o Srb) [ Cancel ↦ refl | Detach ↦ refl | Mother ↦ refl | Step ↦ refl | Abterm ↦ refl | Srb ↦ refl ]
 
--- neither of two tests passes
-neither : (a b : Bool) → (a || b) ≡ false → (a ≡ false) × (b ≡ false)
-neither true b e = absurd cc
-neither false b e = (refl, e)
-
--- nor does a third, at the end of the list
+-- none of the class is there, nor is one at the end of the list
 absent_after : (class : Class) (aborts : List Abort) (abort : Abort) → has_class class aborts ≡ false → is_same_class class abort.class ≡ false → has_class class (aborts ++ abort ∷ []) ≡ false
 absent_after class [] abort absent other = ap (λ b. b || false) other
 absent_after class (x ∷ xs) abort absent other =
-    let parts : (is_same_class class x.class ≡ false) × (has_class class xs ≡ false) = neither (is_same_class class x.class) (has_class class xs) absent in
+    let parts : (is_same_class class x.class ≡ false) × (has_class class xs ≡ false) = or_parts (is_same_class class x.class) (has_class class xs) absent in
     ap (λ b. b || has_class class (xs ++ abort ∷ [])) parts.0 ∙ absent_after class xs abort parts.1 other
 
 joined : (abort : Abort) (aborts : List Abort) → HasDistinctClasses aborts → has_class abort.class aborts ≡ false → HasDistinctClasses (aborts ++ abort ∷ [])
 joined abort [] h absent = (refl, tt)
 joined abort (x ∷ xs) h absent =
-    let parts : (is_same_class abort.class x.class ≡ false) × (has_class abort.class xs ≡ false) = neither (is_same_class abort.class x.class) (has_class abort.class xs) absent in
+    let parts : (is_same_class abort.class x.class ≡ false) × (has_class abort.class xs ≡ false) = or_parts (is_same_class abort.class x.class) (has_class abort.class xs) absent in
     (absent_after x.class xs abort h.0 (same_either_way x.class abort.class ∙ parts.0), joined abort xs h.1 parts.1)
 
 -- an abort whose class isn't there: there is room for it, and it may join the others

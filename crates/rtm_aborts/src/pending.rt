@@ -117,9 +117,9 @@ impl Pending {
         }
     }
 
-    /// Posts an abort: `Late` where the caller says that its target can't be aborted any more (it is dormant, has begun to
-    /// end or doesn't live), else `Merged` where one of its class is pending, which stays as it is, else `Queued`, and it
-    /// stands last.
+    /// Posts an abort: `Late` where the caller says that its target can't be aborted any more (it is dormant, has
+    /// begun to end or doesn't live), else `Merged` where one of its class is pending, which stays as it is, else
+    /// `Queued`, and it stands last.
     #[tactic(auto, using(crate::proofs::Classes::may_join))]
     pub fn post(&mut self, abort: Abort, late: bool) -> Fate
         ensures fate { result ≡ fate_of late abort.class self.old }

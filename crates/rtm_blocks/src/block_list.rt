@@ -53,7 +53,8 @@ fn oldest(list: &[Block]) -> Option<Block>
 
 // Takes blocks away from the newest end, up to the one that has that birth.
 fn cut_to(list: &mut Vec<Block>, born: u32)
-    ensures items { reverse list.new.items ≡ from_first (is_block_of born) (reverse list.old.items) }
+    ensures items { reverse list.new.items
+        ≡ from_first (is_block_of born) (reverse list.old.items) }
     ensures shorter { length list.new.items ≤ length list.old.items }
     ensures capacity { vec_capacity list.new ≡ vec_capacity list.old }
 {
@@ -62,6 +63,17 @@ fn cut_to(list: &mut Vec<Block>, born: u32)
             list.push_reserved(block);
             return;
         }
+    }
+}
+
+// The newest block goes on at that place.
+fn set_place(list: &mut Vec<Block>, place: Place)
+    ensures items { reverse list.new.items ≡ with_newest_at place (reverse list.old.items) }
+    ensures len { length list.new.items ≡ length list.old.items }
+    ensures capacity { vec_capacity list.new ≡ vec_capacity list.old }
+{
+    if let Some(block) = list.last_mut() {
+        block.place = place;
     }
 }
 
@@ -129,12 +141,7 @@ impl BlockList {
     pub(crate) fn set_place(&mut self, place: Place)
         ensures { self.new ≡ with_newest_at place self.old }
     {
-        if let Some(block) = self.list.pop() {
-            self.list.push_reserved(Block {
-                born: block.born,
-                place,
-            });
-        }
+        set_place(&mut self.list, place);
     }
 
     /// Blocks newer than the one that has that birth go, if it is there.

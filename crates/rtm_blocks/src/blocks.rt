@@ -2,7 +2,7 @@
 
 ghost use Rattle.std.specs.Prelude.{◌≡◌, ◌<◌, ◌↔◌, not, [], length, reverse, IfOk, IsErr, OnOk, OnErr, vec_len, vec_capacity};
 ghost use Rattle.std.specs.Option.{option_copied};
-ghost use Rattle.rtm_model.specs.Blocks.{newest, newest_bracket, newest_block, oldest_block, block_born, place_or_none, birth_or_zero, place_in, place_of_born, newest_birth, oldest_birth, has_one_block, has_full_bracket, has_full_brackets, first_place, block_of, in_newest_bracket, with_bracket, without_bracket, with_linked, with_place, with_program, after_return, cut_to};
+ghost use Rattle.rtm_model.specs.Blocks.{newest, newest_bracket, newest_block, oldest_block, block_born, place_or_none, birth_or_zero, place_in, place_of_born, newest_birth, oldest_birth, has_one_block, has_full_bracket, has_full_brackets, first_place, block_of, from_birth, in_newest_bracket, with_bracket, with_newest_at, without_bracket, without_newest, with_linked, with_place, with_program, after_return, cut_to};
 ghost use Rattle.rtm_model.specs.Limits.{most_blocks, most_brackets};
 
 use crate::block_list::BlockList;
@@ -11,7 +11,8 @@ use rtm_model::{Block, Full, MOST_BLOCKS, MOST_BRACKETS, Place};
 use std::alloc::Global;
 use std::marker::Model;
 
-/// The request blocks of a unit: a list of brackets, at most `MOST_BRACKETS`, each a list of blocks, at most `MOST_BLOCKS`.
+/// The request blocks of a unit: a list of brackets, at most `MOST_BRACKETS`, each a list of blocks, at most
+/// `MOST_BLOCKS`.
 ///
 /// A contract sees the innermost bracket first, and in each bracket the newest block. A block's birth is 0 for the one
 /// that the job step task has at the start, and else the index of the entry at which it was born, plus one.
@@ -136,6 +137,43 @@ fn block_count(brackets: &[BlockList]) -> usize
     }
 }
 
+// The newest block of the innermost bracket goes.
+fn end_newest(brackets: &mut Vec<BlockList>)
+    ensures items { reverse brackets.new.items
+        ≡ in_newest_bracket without_newest (reverse brackets.old.items) }
+    ensures len { length brackets.new.items ≡ length brackets.old.items }
+    ensures capacity { vec_capacity brackets.new ≡ vec_capacity brackets.old }
+{
+    if let Some(list) = brackets.last_mut() {
+        list.pop();
+    }
+}
+
+// Blocks of the innermost bracket go that are newer than the one of that birth, if it is there.
+fn cut_to(brackets: &mut Vec<BlockList>, born: u32)
+    ensures items { reverse brackets.new.items
+        ≡ in_newest_bracket (from_birth born) (reverse brackets.old.items) }
+    ensures len { length brackets.new.items ≡ length brackets.old.items }
+    ensures capacity { vec_capacity brackets.new ≡ vec_capacity brackets.old }
+{
+    if let Some(list) = brackets.last_mut() {
+        list.cut_to(born);
+    }
+}
+
+// The newest block of the innermost bracket goes on at that place.
+#[inline(always)]
+fn set_place(brackets: &mut Vec<BlockList>, place: Place)
+    ensures items { reverse brackets.new.items
+        ≡ in_newest_bracket (with_newest_at place) (reverse brackets.old.items) }
+    ensures len { length brackets.new.items ≡ length brackets.old.items }
+    ensures capacity { vec_capacity brackets.new ≡ vec_capacity brackets.old }
+{
+    if let Some(list) = brackets.last_mut() {
+        list.set_place(place);
+    }
+}
+
 impl Blocks {
     /// No bracket, and room for as many as may be.
     pub fn with_room(alloc: Global) -> Result<Blocks, NoMemory>
@@ -156,8 +194,8 @@ impl Blocks {
         self.brackets.len() >= MOST_BRACKETS
     }
 
-    /// The birth of a unit, or the entry of a routine: one more bracket, with a block at the first operation of the program
-    /// of that number.
+    /// The birth of a unit, or the entry of a routine: one more bracket, with a block at the first operation of the
+    /// program of that number.
     pub fn begin(&mut self, born: u32, prog: u16)
         requires room { length self.old < most_brackets }
         ensures { self.new ≡ with_bracket born prog self.old }
@@ -187,8 +225,8 @@ impl Blocks {
         block_count(&self.brackets) >= MOST_BLOCKS
     }
 
-    /// LINK: one more block in the innermost bracket, at the first operation of the program. `Full` where it has as many as
-    /// it may have.
+    /// LINK: one more block in the innermost bracket, at the first operation of the program. `Full` where it has as
+    /// many as it may have.
     pub fn link(&mut self, born: u32, prog: u16) -> Result<(), Full>
         ensures full { IsErr result ↔ (length (newest_bracket self.old) ≡ most_blocks) }
         ensures ok { OnOk result (self.new ≡ with_linked born prog self.old) }
@@ -226,33 +264,28 @@ impl Blocks {
         if self.is_last() {
             return false;
         }
-        if let Some(mut list) = self.brackets.pop() {
-            list.pop();
-            self.brackets.push_reserved(list);
-        }
+        end_newest(&mut self.brackets);
         true
     }
 
-    /// A retry under the block of that birth: newer blocks of the innermost bracket go. Nothing where it has no such block.
+    /// A retry under the block of that birth: newer blocks of the innermost bracket go. Nothing where it has no such
+    /// block.
     pub fn cut_to(&mut self, born: u32)
         ensures { self.new ≡ cut_to born self.old }
     {
-        if let Some(mut list) = self.brackets.pop() {
-            list.cut_to(born);
-            self.brackets.push_reserved(list);
-        }
+        cut_to(&mut self.brackets, born);
     }
 
-    /// The place at which the newest block stands: that of the operation which is next. The operation 0 of the program 0
-    /// where no block is there.
+    /// The place at which the newest block stands: that of the operation which is next. The operation 0 of the
+    /// program 0 where no block is there.
     pub fn place(&self) -> Place
         ensures { result ≡ place_in self.now }
     {
         place_or_none(newest_block(&self.brackets))
     }
 
-    /// The place at which the block of that birth stands, in the innermost bracket. The operation 0 of the program 0 where
-    /// it has no such block.
+    /// The place at which the block of that birth stands, in the innermost bracket. The operation 0 of the program 0
+    /// where it has no such block.
     pub fn place_of(&self, born: u32) -> Place
         ensures { result ≡ place_of_born born self.now }
     {
@@ -263,10 +296,7 @@ impl Blocks {
     pub fn set_place(&mut self, place: Place)
         ensures { self.new ≡ with_place place self.old }
     {
-        if let Some(mut list) = self.brackets.pop() {
-            list.set_place(place);
-            self.brackets.push_reserved(list);
-        }
+        set_place(&mut self.brackets, place);
     }
 
     /// The birth of the newest block of the innermost bracket, or 0 where no block is there.
@@ -304,8 +334,8 @@ impl Blocks {
         birth_or_zero(oldest_block(outer(&self.brackets)))
     }
 
-    /// The place at which the block of that birth stands, in the bracket that encloses the innermost one. The operation 0
-    /// of the program 0 where it has no such block.
+    /// The place at which the block of that birth stands, in the bracket that encloses the innermost one. The
+    /// operation 0 of the program 0 where it has no such block.
     pub fn outer_place_of(&self, born: u32) -> Place
         ensures { result ≡ place_of_born born (without_bracket self.now) }
     {

@@ -2,7 +2,7 @@
 use Rattle.std.proofs.Common.{◌≡◌, ◌≢◌, ℕ, zero, suc, ◌+◌, ◌<◌, ◌≤◌, Bool, true, false, ◌&&◌, ◌||◌, ◌⊎◌, inl, inr, List, length, map, replicate, refl, sym, ap, ◌∙◌, arith}
 use Rattle.std.specs.Prelude.{◌==◌, slice_index, slice_set}
 use Rattle.std.specs.List.{AllByRecursion, range_with_len}
-use Rattle.std.proofs.lemmas.Bool.{cases_eq, eqb-true}
+use Rattle.std.proofs.lemmas.Bool.{cases_eq, eqb-true, or_cases}
 use Rattle.std.proofs.lemmas.List.{get_or-set_same, get_or-set_other, length-set, length-replicate}
 use Rattle.rtm_board.specs.Commands.{no_commands, has, with_one, union_of}
 use Rattle.rtm_board.specs.View.{BoardView, ConsoleView, UnitView, commands_for, word_of, with_word, target_of, with_command, AreSeatsFrom, IsAccountedFor, AreAccountedFor, opening_seat, IsBoard, IsConsole}
@@ -16,8 +16,8 @@ word_same words t x u within e = ap (λ (n : ℕ). slice_index (slice_set words 
 word_other : (words : List ℕ) (t x u : ℕ) → u ≢ t → slice_index (slice_set words t x) u ≡ slice_index words u
 word_other words t x u ne = get_or-set_other words t u x 0 ne
 
--- An entry of the account, command by command: e says whether it is the command in hand, w whether it stands in the word, k
--- whether it is taken, p whether it is posted, and c whether it is one of the unit's
+-- An entry of the account, command by command: e says whether it is the command in hand, w whether it stands in the
+-- word, k whether it is taken, p whether it is posted, and c whether it is one of the unit's
 
 post_here : (e w k p c : Bool) → (w || k) ≡ (p && c) → (e ≡ true → c ≡ true) → ((e || w) || k) ≡ ((e || p) && c)
 post_here true w k p true h own = refl
@@ -123,10 +123,6 @@ accounted_other board console u unit ne old =
 
 -- What the board and the console's seat keep
 
-or_true : (x y : Bool) → (x || y) ≡ true → (x ≡ true) ⊎ (y ≡ true)
-or_true true y e = inl refl
-or_true false y e = inr e
-
 pub board_post : (targets words : List ℕ) (cmd : ℕ) → IsBoard targets words → cmd < length targets → IsBoard targets (slice_set words (slice_index targets cmd) (with_one cmd (slice_index words (slice_index targets cmd))))
 board_post targets words cmd old command =
     let t = slice_index targets cmd in
@@ -134,7 +130,7 @@ board_post targets words cmd old command =
     let Own : ℕ → ℕ → Type 0 = λ unit c. has c (slice_index (slice_set words t (with_one cmd w)) unit) ≡ true → has c (commands_for unit targets) ≡ true in
     let own : (unit c : ℕ) → unit ≡ t → Own unit c = λ unit c here set.
     let either : ((c == cmd) || has c w) ≡ true = sym (ap (has c) (word_same words t (with_one cmd w) unit (old.units cmd command) here) ∙ has_with c cmd w) ∙ set in
-    elim (or_true (c == cmd) (has c w) either) as (λ _. has c (commands_for unit targets) ≡ true) [
+    elim (or_cases (c == cmd) (has c w) either) as (λ _. has c (commands_for unit targets) ≡ true) [
       | inl e ↦ ap (λ (n : ℕ). has n (commands_for unit targets)) (eqb-true c cmd e) ∙ own_command unit cmd targets command (sym here)
       | inr e ↦ old.own unit c (ap (λ (n : ℕ). has c (slice_index words n)) here ∙ e)
     ] in
@@ -181,7 +177,7 @@ pub console_post : (targets : List ℕ) (posted cmd : ℕ) → cmd < length targ
 console_post targets posted cmd command old =
     record {
       own = λ c set.
-          elim (or_true (c == cmd) (has c posted) (sym (has_with c cmd posted) ∙ set)) as (λ _. c < length targets)
+          elim (or_cases (c == cmd) (has c posted) (sym (has_with c cmd posted) ∙ set)) as (λ _. c < length targets)
           [ inl e ↦ omega (arith, eqb-true c cmd e) | inr e ↦ old.own c e ];
     }
 

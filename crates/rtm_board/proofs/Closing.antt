@@ -7,9 +7,9 @@ use Rattle.rtm_board.specs.Commands.{no_commands, has}
 use Rattle.rtm_board.specs.View.{BoardView, ConsoleView, UnitView, commands_for, word_of, all_of, commands_taken_by, AreSeatsFrom, IsAccountedFor, AreAccountedFor, IsBoard, IsConsole}
 use Rattle.rtm_board.proofs.Sets.{has_none, has_joined, has_commands_for}
 
--- Of one command: w and k say whether it stands in the first unit's word and whether that unit has taken it, x and y the same
--- of the units behind it, p whether it is posted, e whether it is the first unit's, f whether it is one of the others', and
--- g whether it is any unit's
+-- Of one command: w and k say whether it stands in the first unit's word and whether that unit has taken it, x and y
+-- the same of the units behind it, p whether it is posted, e whether it is the first unit's, f whether it is one of
+-- the others', and g whether it is any unit's
 
 clash : (p e f : Bool) → true ≡ (p && e) → true ≡ (p && f) → (e && f) ≡ false → ⊥
 clash false e f h h' apart = absurd cc

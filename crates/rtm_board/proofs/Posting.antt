@@ -2,7 +2,7 @@
 use Rattle.std.proofs.Common.{◌≡◌, ℕ, ◌<◌, Bool, true, false, List, [], ◌∷◌, length, map, refl, sym, ap, subst, ◌∙◌, arith}
 use Rattle.std.specs.Prelude.{if◌then◌else◌, ◌==◌, ◌||◌}
 use Rattle.std.specs.List.{range_with_len}
-use Rattle.std.proofs.lemmas.Bool.{eqb-true}
+use Rattle.std.proofs.lemmas.Bool.{eqb-true, or_right}
 use Rattle.std.proofs.lemmas.Bool.Decides.{nat_tests}
 use Rattle.rtm_deck_items.specs.View.{DeckView}
 use Rattle.rtm_board.specs.Commands.{has, no_commands, union_of, with_one}
@@ -10,10 +10,6 @@ use Rattle.rtm_board.specs.View.{AreAccountedFor, BoardView, ConsoleView, IsAcco
 use Rattle.rtm_board.proofs.Keeping.{all_posted, if_console, if_posted}
 use Rattle.rtm_board.proofs.Sets.{has_none, has_with}
 use Rattle.rtm_board.specs.All.{AreAll}
-
-or_right : (a b : Bool) → b ≡ true → (a || b) ≡ true
-or_right true b e = refl
-or_right false b e = e
 
 eqb_same : (n : ℕ) → (n == n) ≡ true
 eqb_same n = grind (arith, nat_tests)

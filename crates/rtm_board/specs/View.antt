@@ -1,11 +1,12 @@
--- The operator's board, its seats, and how they fit each other. Operator commands, their words and seats are this profile's.
+-- The operator's board, its seats, and how they fit each other. Operator commands, their words and seats are this
+-- profile's.
 use Rattle.std.specs.Prelude.{◌≡◌, ℕ, ◌+◌, ◌*◌, ◌<◌, ◌≤◌, true, false, ◌&&◌, ◌||◌, ◌==◌, if◌then◌else◌, List, [], ◌∷◌, length, map, replicate, slice_index, slice_set}
 use Rattle.std.specs.List.{AllByRecursion, range_with_len}
 use Rattle.rtm_deck_items.specs.View.{DeckView}
 use Rattle.rtm_board.specs.Commands.{no_commands, has, with_one, union_of}
 
--- the unit that each command of the deck is for, by the command's number; and a word for each unit, with the commands that
--- were posted to it and that it hasn't taken
+-- the unit that each command of the deck is for, by the command's number; and a word for each unit, with the commands
+-- that were posted to it and that it hasn't taken
 pub record BoardView : Type 0 where
   pub targets : List ℕ
   pub words : List ℕ
@@ -65,7 +66,8 @@ abbrev pub AreSeatsFrom : BoardView → ℕ → List UnitView → Type 0
 AreSeatsFrom board unit [] = unit ≡ length board.words
 AreSeatsFrom board unit (seat ∷ seats) = (seat.unit ≡ unit) × IsSeatOf board seat × AreSeatsFrom board (unit + 1) seats
 
--- what the console has posted to the seat's unit is what stands in its word and what the seat has taken, and no command is both
+-- what the console has posted to the seat's unit is what stands in its word and what the seat has taken, and no
+-- command is both
 pub record IsAccountedFor (board : BoardView) (console : ConsoleView) (seat : UnitView) : Type 0 where
   pub is_seat : IsSeatOf board seat
   pub posted : (cmd : ℕ) → (has cmd (word_of seat.unit board) || has cmd seat.taken) ≡ (has cmd console.posted && has cmd seat.commands)

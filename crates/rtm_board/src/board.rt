@@ -22,7 +22,8 @@ pub enum Posted {
     Already,
 }
 
-/// The operator's board of a deck: a word for each unit, with the commands that were posted to it and that it hasn't taken.
+/// The operator's board of a deck: a word for each unit, with the commands that were posted to it and that it hasn't
+/// taken.
 ///
 /// A contract sees the unit that each command of the deck is for, by the command's number, and the unit's words, by the
 /// unit's number. How the words fit what the console has posted and what the units have taken is said by
@@ -128,8 +129,8 @@ pub(crate) fn board_with_seats(
 }
 
 impl Board {
-    /// A board for the deck, with the console's seat and a seat for each unit, in their order. Nothing is posted, and nothing
-    /// is taken. This call takes all memory.
+    /// A board for the deck, with the console's seat and a seat for each unit, in their order. Nothing is posted, and
+    /// nothing is taken. This call takes all memory.
     pub fn make(alloc: Global, deck: &Deck) -> Result<(Board, ConsoleSeat, Vec<UnitSeat>), NoMemory>
         ensures { IfOk result
             (λ made.
@@ -148,7 +149,8 @@ impl Board {
         ensures board { self.new
             ≡ (if has cmd seat.old.posted then self.old else with_command cmd self.old) }
         ensures seat { seat.new
-            ≡ (if has cmd seat.old.posted then seat.old else record seat.old { posted = with_one cmd seat.old.posted }) }
+            ≡ (if has cmd seat.old.posted then seat.old
+            else record seat.old { posted = with_one cmd seat.old.posted }) }
         ensures accounted { (unit : UnitView) → IsAccountedFor self.old seat.old unit
             → IsAccountedFor self.new seat.new unit }
     {
@@ -160,7 +162,8 @@ impl Board {
         Posted::Now
     }
 
-    /// Takes the commands that stand in the word of the seat's unit, and empties it. Each is one of the deck's for that unit.
+    /// Takes the commands that stand in the word of the seat's unit, and empties it. Each is one of the deck's for
+    /// that unit.
     pub fn take(&mut self, seat: &mut UnitSeat) -> Notes
         requires { IsSeatOf self.old seat.old }
         ensures notes { result ≡ word_of seat.old.unit self.old }
@@ -177,7 +180,8 @@ impl Board {
         notes_of(word)
     }
 
-    /// Takes the board away with all its seats, and gives what still stands in its words: what was posted and wasn't taken.
+    /// Takes the board away with all its seats, and gives what still stands in its words: what was posted and wasn't
+    /// taken.
     pub fn close(self, console: ConsoleSeat, seats: Vec<UnitSeat>) -> Notes
         requires console { console.targets ≡ self.targets }
         requires seats { AreSeatsFrom self 0 seats.items }

@@ -1,5 +1,5 @@
-//! The operator's board: a word of posted commands for each unit, the seats from which it is written and read, and the notes
-//! that come out of it.
+//! The operator's board: a word of posted commands for each unit, the seats from which it is written and read, and
+//! the notes that come out of it.
 #![tactic(auto)]
 
 mod bits;

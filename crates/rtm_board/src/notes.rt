@@ -81,7 +81,8 @@ impl Notes {
     #[tactic(auto, using(crate::proofs::Sets::has_above))]
     pub fn pick(&mut self, cmd: u8) -> Option<Note>
         ensures which { result ≡ (if has cmd self.old then Some cmd else None) }
-        ensures left { self.new ≡ (if has cmd self.old then without_one cmd self.old else self.old) }
+        ensures left { self.new
+            ≡ (if has cmd self.old then without_one cmd self.old else self.old) }
     {
         if cmd >= 64 || !bits::has(self.set, cmd) {
             return None;

@@ -23,8 +23,8 @@ pub record HasNoFault (bytes : List ℕ) : Type 0 where
   pub size : length bytes ≤ most_bytes
   pub cards : NoCutFault (lines_of bytes)
 
--- Too many bytes are refused at the card that holds the first byte too many. Else the fault is that of the least card that
--- breaks a rule.
+-- Too many bytes are refused at the card that holds the first byte too many. Else the fault is that of the least card
+-- that breaks a rule.
 pub record IsFirstFault (bytes : List ℕ) (fault : CutFault) : Type 0 where
   pub by_size : most_bytes < length bytes → (fault.card ≡ number_at bytes most_bytes) × (fault.why ≡ TooLong)
   pub by_card : length bytes ≤ most_bytes → FirstCutFault (lines_of bytes) fault.card fault.why

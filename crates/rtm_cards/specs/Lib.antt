@@ -10,3 +10,4 @@ pub mod Cards
 pub mod Faults
 pub mod Spelling
 pub mod Split
+pub use Rattle.rtm_text.specs.Cutting

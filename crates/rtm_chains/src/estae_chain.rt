@@ -18,8 +18,8 @@ use std::marker::Model;
 /// The ESTAE routines of a unit (Authorized Assembler Services Guide, "Providing recovery"), at most `MOST_ESTAES`.
 ///
 /// A contract sees the chain as the list of its routines, newest first. A depth is 0 for the outermost bracket of the
-/// unit and one more for each inner one, at most `DEEPEST`. An owner is the birth of the request block that made the routine,
-/// and a routine's own birth the index of the entry that made it.
+/// unit and one more for each inner one, at most `DEEPEST`. An owner is the birth of the request block that made the
+/// routine, and a routine's own birth the index of the entry that made it.
 #[derive(Drop)]
 pub struct EstaeChain {
     list: Vec<Routine>,
@@ -122,16 +122,16 @@ impl EstaeChain {
         Ok(())
     }
 
-    /// The routine that ESTAEX OV and ESTAEX 0 speak of: the newest of the bracket of that depth, if that request block made
-    /// it.
+    /// The routine that ESTAEX OV and ESTAEX 0 speak of: the newest of the bracket of that depth, if that request
+    /// block made it.
     pub fn newest_owned(&self, depth: u8, owner: u32) -> Option<Reg>
         ensures { result ≡ newest_owned depth owner self.now }
     {
         routine::if_of_owner(owner, routine::newest_of(&self.list, depth))
     }
 
-    /// ESTAEX OV: puts a new routine in the place of the newest one of the bracket of that depth, and gives the old one.
-    /// `NotOwned` where the bracket has none, or another request block made it.
+    /// ESTAEX OV: puts a new routine in the place of the newest one of the bracket of that depth, and gives the old
+    /// one. `NotOwned` where the bracket has none, or another request block made it.
     pub fn overlay(&mut self, depth: u8, owner: u32, reg: Reg) -> Result<Reg, NotOwned>
         ensures which { result ≡ ok_or (newest_owned depth owner self.old) not_owned }
         ensures list { self.new ≡ after_overlay depth owner reg self.old }

@@ -3,18 +3,15 @@
 ghost use Rattle.std.specs.Prelude.{◌≡◌, ◌≤◌, ◌==◌, not, [], length, filter, vec_capacity, IfOk};
 ghost use Rattle.rtm_model.specs.OwnChange.{routine_born_at};
 ghost use Rattle.rtm_model.specs.Chains.{next_estai, inherited_estais, without_born};
+ghost use Rattle.rtm_model.specs.Limits.{most_estais};
 
 use crate::routine::{self, Routine};
 use rtm_codes::NoMemory;
-use rtm_model::Reg;
+use rtm_model::{MOST_ESTAIS, Reg};
 use std::alloc::Global;
 use std::marker::Model;
 
-// At most this many ESTAI routines of a task: one for it and for each of its ancestors but the job step task, of 64 units
-// (this profile).
-const MOST_ESTAIS: usize = 63;
-
-/// The ESTAI routines of a task (Assembler Services Reference, ATTACHX), at most 63 (this profile).
+/// The ESTAI routines of a task (Assembler Services Reference, ATTACHX), at most `MOST_ESTAIS`.
 ///
 /// A contract sees the list as its routines, that of the nearest attacher first. A routine's birth is the index of the
 /// entry whose ATTACHX named it, and those who inherit it have it under the same birth.
@@ -26,12 +23,13 @@ pub struct EstaiList {
 impl Model for EstaiList {
     ghost use Rattle.std.specs.Prelude.{◌≤◌, List, vec_capacity};
     ghost use Rattle.rtm_model.specs.declared.reg.Reg.{Reg};
+    ghost use Rattle.rtm_model.specs.Limits.{most_estais};
 
     ghost Value = { List Reg };
 
     ghost view = { λ a. a.list.items };
 
-    ghost invariant = { λ a. 63 ≤ vec_capacity a.list };
+    ghost invariant = { λ a. most_estais ≤ vec_capacity a.list };
 }
 
 fn drop_born(list: &mut Vec<Routine>, born: u32)
@@ -42,7 +40,7 @@ fn drop_born(list: &mut Vec<Routine>, born: u32)
 }
 
 impl EstaiList {
-    /// A list with no routine, and room for 63.
+    /// A list with no routine, and room for as many as may be.
     pub fn with_room(alloc: Global) -> Result<EstaiList, NoMemory>
         ensures { IfOk result (λ list. list ≡ []) }
     {
@@ -51,18 +49,18 @@ impl EstaiList {
         })
     }
 
-    /// The routines of a task at its birth, in a list that has none yet: its own first, if its ATTACHX names one, and then
-    /// those of its mother, which keeps them.
+    /// The routines of a task at its birth, in a list that has none yet: its own first, if its ATTACHX names one, and
+    /// then those of its mother, which keeps them.
     pub fn inherit(&mut self, mother: &EstaiList, own: Option<Reg>)
         requires empty { self.old ≡ [] }
-        requires room { length (inherited_estais own mother.now) ≤ 63 }
+        requires room { length (inherited_estais own mother.now) ≤ most_estais }
         ensures { self.new ≡ inherited_estais own mother.now }
     {
         if let Some(reg) = own {
             self.list.push_reserved(Routine { reg });
         }
         if self.list.extend_from_slice(&mother.list).is_err() {
-            unreachable!("there is room for 63");
+            unreachable!("there is room for all");
         }
     }
 

@@ -1,6 +1,13 @@
-//! Runs a system: today on one thread, in turns.
+//! Runs a system: today on one thread, in turns. A region is a system whose managers are told of its releases.
 #![tactic(auto)]
 
+mod region;
+mod run;
+mod send;
+mod telling;
 mod turns;
 
+pub use region::Region;
+pub use run::{NoRun, run_region, run_with};
+pub use send::regions_are_send;
 pub use turns::seq_run;

@@ -9,8 +9,9 @@ use rtm_board::Notes;
 use rtm_model::End;
 use rtm_system::System;
 
-/// Runs a system from its start to its end, in turns (this profile). The notes are those of all commands of its deck: each is
-/// shown to the system where it is its command's turn to arrive, and is back in the set at the end. Answers how the history ends.
+/// Runs a system from its start to its end, in turns (this profile). The notes are those of all commands of its deck:
+/// each is shown to the system where it is its command's turn to arrive, and is back in the set at the end. Answers
+/// how the history ends.
 pub fn seq_run(system: &mut System, notes: &mut Notes) -> End
     requires start { system.old.trace ≡ [] }
     requires notes { AreAll system.old.deck notes.old }

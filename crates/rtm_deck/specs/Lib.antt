@@ -1,8 +1,10 @@
-pub mod View
-pub mod Roles
-pub mod Seen
-pub mod References
-pub mod Operations
-pub mod Building
-pub mod Reader
+pub mod inner
 pub mod Refusal
+pub use Rattle.rtm_cards.specs.Cards
+pub use Rattle.rtm_cards.specs.Span
+pub use Rattle.rtm_deck_operands.specs.Slot
+pub use Rattle.rtm_deck_items.specs.Canon
+pub use Rattle.rtm_deck_items.specs.Faults
+pub use Rattle.rtm_deck_items.specs.Forms
+pub use Rattle.rtm_deck_items.specs.Spelling
+pub use Rattle.rtm_deck_items.specs.View

@@ -2,11 +2,11 @@
 
 ghost use Rattle.std.specs.Prelude.{◌≡◌, true, ◌≤◌, ◌++◌, [], length, IfOk, OnOk, unwrap_or};
 ghost use Rattle.rtm_deck_items.specs.View.{DeckView};
-ghost use Rattle.rtm_deck.specs.View.{ScanView};
-ghost use Rattle.rtm_deck.specs.Building.{line_of, line_count, lines_from, program_of, programs_with, programs_from, unit_of, unit_in, units_from, command_in, commands_from, region_from, deck_of};
-ghost use Rattle.rtm_deck.specs.Roles.{role_of, is_line};
-ghost use Rattle.rtm_deck.specs.Operations.{no_name};
-ghost use Rattle.rtm_deck.specs.Reader.{scan_of};
+ghost use Rattle.rtm_deck.specs.inner.View.{ScanView};
+ghost use Rattle.rtm_deck.specs.inner.Building.{line_of, line_count, lines_from, program_of, programs_with, programs_from, unit_of, unit_in, units_from, command_in, commands_from, region_from, deck_of};
+ghost use Rattle.rtm_deck.specs.inner.Roles.{role_of, is_line};
+ghost use Rattle.rtm_deck.specs.inner.Operations.{no_name};
+ghost use Rattle.rtm_deck.specs.inner.Reader.{scan_of};
 
 use crate::card::Read;
 use crate::operation::{
@@ -106,7 +106,8 @@ fn put_program(
     others: &[Read],
 ) -> Result<(), NoMemory>
     ensures { OnOk result (programs.new.items
-        ≡ programs.old.items ++ programs_with seen.now (role_of read.now.form) read.now others.now []) }
+        ≡ programs.old.items
+        ++ programs_with seen.now (role_of read.now.form) read.now others.now []) }
 {
     if !role_of(read.form).is_program() {
         return Ok(());

@@ -7,8 +7,8 @@ ghost use Rattle.rtm_cards.specs.Cards.{card_text, HasSpansIn};
 ghost use Rattle.rtm_deck_items.specs.Forms.{form_named, operation_of, needs_some};
 ghost use Rattle.rtm_deck_operands.specs.declared.value.Value.{Value};
 ghost use Rattle.rtm_deck_operands.specs.Slot.{IsWellMade};
-ghost use Rattle.rtm_deck.specs.Roles.{role_of};
-ghost use Rattle.rtm_deck.specs.Seen.{values_if_read, read_all, read_by, reading_of, reading_as, reading_in, reading_by, AreEnough, read_in, read_card, read_with, read_known};
+ghost use Rattle.rtm_deck.specs.inner.Roles.{role_of};
+ghost use Rattle.rtm_deck.specs.inner.Seen.{values_if_read, read_all, read_by, reading_of, reading_as, reading_in, reading_by, AreEnough, read_in, read_card, read_with, read_known};
 
 use crate::role::{Role, role_of};
 use crate::seen::Seen;
@@ -28,7 +28,7 @@ pub(crate) struct Read {
 }
 
 impl Model for Read {
-    ghost use Rattle.rtm_deck.specs.View.{ReadView};
+    ghost use Rattle.rtm_deck.specs.inner.View.{ReadView};
 
     ghost Value = { ReadView };
 
@@ -207,7 +207,8 @@ fn read_with(
     }
 }
 
-/// The name, the form and the values of a card, as it is read behind the others, or the first rule of form that it breaks.
+/// The name, the form and the values of a card, as it is read behind the others, or the first rule of form that it
+/// breaks.
 pub(crate) fn read_card(
     seen: &Seen,
     bytes: &[u8],

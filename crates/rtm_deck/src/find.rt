@@ -3,9 +3,9 @@
 ghost use Rattle.std.specs.Prelude.{◌≡◌, ◌≤◌, [], length, drop, OnOk, IfOk, IfErr, Option, Some, None};
 ghost use Rattle.rtm_deck_operands.specs.declared.slot.Kind.TheVariants as kinds;
 ghost use Rattle.rtm_deck_items.specs.Faults.{why_of_name};
-ghost use Rattle.rtm_deck.specs.Seen.{has_name};
-ghost use Rattle.rtm_deck.specs.References.{finds, unfound, first_unfound, labels_onto, own_labels, first_nameless, refusal};
-ghost use Rattle.rtm_deck.specs.Reader.{Finds};
+ghost use Rattle.rtm_deck.specs.inner.Seen.{has_name};
+ghost use Rattle.rtm_deck.specs.inner.References.{finds, unfound, first_unfound, labels_onto, own_labels, first_nameless, refusal};
+ghost use Rattle.rtm_deck.specs.inner.Reader.{Finds};
 
 use crate::card::Read;
 use crate::fault::DeckFault;

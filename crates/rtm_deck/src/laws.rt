@@ -17,8 +17,8 @@ pub fn each_input_is_a_deck_or_has_a_fault()
         → a ≡ b }
 {}
 
-/// The canonical text of a deck that is spelled spells that deck and no other. So two inputs have the same canonical text
-/// exactly where they spell the same deck.
+/// The canonical text of a deck that is spelled spells that deck and no other. So two inputs have the same canonical
+/// text exactly where they spell the same deck.
 pub fn canonical_texts_are_read_back()
     ensures back { (bytes : List ℕ) (d other : DeckView) → DeckText bytes d
         → DeckText (canon d) other → other ≡ d }

@@ -1,8 +1,8 @@
 //! What a card of a program does.
 
 ghost use Rattle.std.specs.Prelude.{◌≡◌, true, ◌<◌, ◌^◌, option_map, IfSome, position, bytes_eq, unwrap_or};
-ghost use Rattle.rtm_deck.specs.Roles.{role_of, is_line};
-ghost use Rattle.rtm_deck.specs.Operations.{value_at, flag_in, number_in, reason_in, code_in, name_in, three_in, class_in, flag_at, number_at, byte_at, code_at, class_at, reason_at, label_at, index_in, named_number_in, named_number_at, narrow, setrp_of, plain_op, routine_op, unit_op, op_in, op_of, no_name};
+ghost use Rattle.rtm_deck.specs.inner.Roles.{role_of, is_line};
+ghost use Rattle.rtm_deck.specs.inner.Operations.{value_at, flag_in, number_in, reason_in, code_in, name_in, three_in, class_in, flag_at, number_at, byte_at, code_at, class_at, reason_at, label_at, index_in, named_number_in, named_number_at, narrow, setrp_of, plain_op, routine_op, unit_op, op_in, op_of, no_name};
 
 use crate::seen::Seen;
 use indexmap::IndexSet;

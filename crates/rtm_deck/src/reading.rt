@@ -8,10 +8,10 @@ ghost use Rattle.rtm_deck_items.specs.declared.why.Why.{Why};
 ghost use Rattle.rtm_deck_items.specs.Faults.{IsFirstFault, why_of_cut};
 ghost use Rattle.rtm_deck_items.specs.View.{DeckView};
 ghost use Rattle.rtm_deck.specs.Refusal.{IsRefusalOf, IsThatDeck, IsThatRefusal};
-ghost use Rattle.rtm_deck.specs.Seen.{nothing_seen};
-ghost use Rattle.rtm_deck.specs.References.{first_nameless};
-ghost use Rattle.rtm_deck.specs.Building.{deck_of};
-ghost use Rattle.rtm_deck.specs.Reader.{Gives, scan_of, scan_next, scan, why_unended, deck_if_named, deck_if_ended, deck_or_fault, read_cards};
+ghost use Rattle.rtm_deck.specs.inner.Seen.{nothing_seen};
+ghost use Rattle.rtm_deck.specs.inner.References.{first_nameless};
+ghost use Rattle.rtm_deck.specs.inner.Building.{deck_of};
+ghost use Rattle.rtm_deck.specs.inner.Reader.{Gives, scan_of, scan_next, scan, why_unended, deck_if_named, deck_if_ended, deck_or_fault, read_cards};
 
 use crate::build::{Parts, build};
 use crate::card::{Read, read_card};
@@ -33,7 +33,7 @@ struct Scan {
 }
 
 impl Model for Scan {
-    ghost use Rattle.rtm_deck.specs.View.{ScanView};
+    ghost use Rattle.rtm_deck.specs.inner.View.{ScanView};
 
     ghost Value = { ScanView };
 
@@ -208,8 +208,8 @@ fn read_bytes(alloc: Global, bytes: &[u8]) -> Result<Deck, DeckFault>
 
 /// Reads a deck, or names its first fault (this profile).
 ///
-/// A card with a fault of form comes before a missing END, and that before a name or label that isn't there; in one card
-/// the faults are looked for in the order that docs/CARDS.md gives. The other error is want of memory.
+/// A card with a fault of form comes before a missing END, and that before a name or label that isn't there; in one
+/// card the faults are looked for in the order that docs/CARDS.md gives. The other error is want of memory.
 pub fn read_deck(alloc: Global, bytes: &[u8]) -> Result<Deck, DeckFault>
     ensures found { IfOk result (λ deck. DeckText bytes.now deck) }
     ensures refused { IfErr result (IsRefusalOf bytes.now) }

@@ -1,7 +1,7 @@
 //! What a card is in the order of a deck.
 
 ghost use Rattle.std.specs.Prelude.{◌≡◌};
-ghost use Rattle.rtm_deck.specs.Roles.{role_of, is_inside_role, is_line, is_program_role, is_misnamed_role};
+ghost use Rattle.rtm_deck.specs.inner.Roles.{role_of, is_inside_role, is_line, is_program_role, is_misnamed_role};
 
 use rtm_deck_items::{CardForm, Name};
 

@@ -1,7 +1,7 @@
 //! What the reader keeps of the cards before.
 
 ghost use Rattle.std.specs.Prelude.{◌≡◌, ◌+◌, ◌<◌, ◌^◌, OnOk, OnErr};
-ghost use Rattle.rtm_deck.specs.Seen.{nothing_seen, after, is_unordered, is_misplaced_role, is_doubled_name, is_beyond, lacks_task_role, broken_rule, has_given, has_name, with_name};
+ghost use Rattle.rtm_deck.specs.inner.Seen.{nothing_seen, after, is_unordered, is_misplaced_role, is_doubled_name, is_beyond, lacks_task_role, broken_rule, has_given, has_name, with_name};
 
 use crate::role::Role;
 use indexmap::IndexSet;
@@ -28,7 +28,7 @@ pub(crate) struct Seen {
 }
 
 impl Model for Seen {
-    ghost use Rattle.rtm_deck.specs.View.{SeenView};
+    ghost use Rattle.rtm_deck.specs.inner.View.{SeenView};
 
     ghost Value = { SeenView };
 

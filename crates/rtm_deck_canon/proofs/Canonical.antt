@@ -43,8 +43,8 @@ use Rattle.rtm_deck_canon.proofs.Covered.{together, EachProgram, EachUnit}
 abbrev pub some_are_written : List Slot → List (Option Value) → Bool
 some_are_written slots given = not (eqb (length (canon_operands slots given)) 0)
 
--- What is asked of an item so that its canonical card says it: its name, its values, and that an operand stands there where
--- one must.
+-- What is asked of an item so that its canonical card says it: its name, its values, and that an operand stands there
+-- where one must.
 pub record CanBeWritten (d : DeckView) (item : Item) : Type 0 where
   pub named : IsTrue (is_name_field (name_of item))
   pub fits : IsTrue (item_fits d item)

@@ -1,3 +1,13 @@
 pub mod Fits
 pub mod Text
 pub mod Groups
+pub use Rattle.rtm_cards.specs.Cards
+pub use Rattle.rtm_cards.specs.Limits
+pub use Rattle.rtm_cards.specs.Lines
+pub use Rattle.rtm_deck_operands.specs.Slot
+pub use Rattle.rtm_deck_items.specs.Canon
+pub use Rattle.rtm_deck_items.specs.Forms
+pub use Rattle.rtm_deck_items.specs.Items
+pub use Rattle.rtm_deck_items.specs.Spelling
+pub use Rattle.rtm_deck_items.specs.View
+pub use Rattle.rtm_deck_items.specs.WellFormed

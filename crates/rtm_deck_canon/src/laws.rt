@@ -17,7 +17,8 @@ pub fn canonical_text_spells_its_deck()
 
     // Whatever is well formed, and has no card that is too long, can be spelled.
     ensures possible { (d : DeckView) → IsTrue (is_well_formed d)
-        → AllByRecursion (λ item. length (item_line d item) ≤ most_card_bytes) (canon_items d) → DeckText (canon d) d }
+        → AllByRecursion (λ item. length (item_line d item) ≤ most_card_bytes) (canon_items d)
+        → DeckText (canon d) d }
 
     // It is cut back into the lines that were written.
     ensures lines { (d : DeckView) (bytes : List ℕ) → DeckText bytes d

@@ -154,7 +154,8 @@ fn values_of_unit_op(deck: &Deck, op: &Op) -> Values
 }
 
 fn abend_values(code: Code, reason: Option<u32>, dump: bool, step: bool) -> Values
-    ensures { result.items ≡ some (Value.Code code) ∷ option_map Value.Reason reason ∷ some (Value.Flag dump)
+    ensures { result.items ≡ some (Value.Code code) ∷ option_map Value.Reason reason
+        ∷ some (Value.Flag dump)
         ∷ some (Value.Flag step) ∷ [] }
 {
     let mut values = two(code_value(code), given_reason(reason));
@@ -165,7 +166,8 @@ fn abend_values(code: Code, reason: Option<u32>, dump: bool, step: bool) -> Valu
 
 // The values of both forms that name a routine.
 fn estaex_values(program: Option<Value>, term: bool, cancel: bool, xctl: bool) -> Values
-    ensures { result.items ≡ some Value.Word ∷ program ∷ some (Value.Flag term) ∷ some (Value.Flag cancel)
+    ensures { result.items ≡ some Value.Word ∷ program ∷ some (Value.Flag term)
+        ∷ some (Value.Flag cancel)
         ∷ some (Value.Flag xctl) ∷ [] }
 {
     let mut values = three(WORD, program, flag(term));
@@ -181,7 +183,8 @@ fn abterm_values(
     dump: bool,
     retry: bool,
 ) -> Values
-    ensures { result.items ≡ some Value.Word ∷ task ∷ some (Value.Code code) ∷ option_map Value.Reason reason
+    ensures { result.items ≡ some Value.Word ∷ task ∷ some (Value.Code code)
+        ∷ option_map Value.Reason reason
         ∷ some (Value.Flag dump) ∷ some (Value.Flag retry) ∷ [] }
 {
     let mut values = three(WORD, task, code_value(code));
@@ -192,7 +195,8 @@ fn abterm_values(
 }
 
 fn setrp_values(setrp: &Setrp) -> Values
-    ensures { result.items ≡ option_map Value.Number setrp.now.rc ∷ option_map Value.Name setrp.now.retaddr
+    ensures { result.items ≡ option_map Value.Number setrp.now.rc
+        ∷ option_map Value.Name setrp.now.retaddr
         ∷ option_map Value.Flag setrp.now.remrec ∷ option_map Value.Code setrp.now.compcod
         ∷ option_map Value.Reason setrp.now.reason ∷ option_map Value.Three setrp.now.dump
         ∷ option_map Value.Three setrp.now.logrec ∷ option_map Value.Flag setrp.now.fresdwa ∷ [] }

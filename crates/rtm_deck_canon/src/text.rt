@@ -80,7 +80,8 @@ fn push_program(out: &mut Vec<u8>, deck: &Deck, program: &Program) -> Result<(),
 
 fn push_lines(out: &mut Vec<u8>, deck: &Deck, lines: &[Line]) -> Result<(), NoMemory>
     requires { IsTrue (list_all (line_fits deck.now) lines.now) }
-    ensures { OnOk result (out.new.items ≡ out.old.items ++ flat_map (line_text deck.now) lines.now) }
+    ensures { OnOk result
+        (out.new.items ≡ out.old.items ++ flat_map (line_text deck.now) lines.now) }
 {
     for line in lines {
         push_line(out, deck, line)?;

@@ -23,8 +23,8 @@ item_line d item = card_line (name_of item) (form_of item) (values_of d item)
 abbrev pub canon_blocks : DeckView → List Block
 canon_blocks d = map ProgramBlock d.programs ++ map UnitBlock d.units
 
--- REGION where the limit isn't the default or routines get no SDWA, the programs and the units in their order, OPER where
--- there is a command, END
+-- REGION where the limit isn't the default or routines get no SDWA, the programs and the units in their order, OPER
+-- where there is a command, END
 abbrev pub canon_items : DeckView → List Item
 canon_items d = items_of (has_region d.limit d.sdwa) (not (length d.commands == 0)) (canon_blocks d) d
 

@@ -1,4 +1,5 @@
--- The first fault of an input that spells no deck (this profile). Cards that stand before another are listed newest first.
+-- The first fault of an input that spells no deck (this profile). Cards that stand before another are listed newest
+-- first.
 use Rattle.std.specs.Prelude.{◌≡◌, ◌⊎◌, ℕ, ◌+◌, ◌<◌, ◌≤◌, Bool, true, false, IsTrue, not, ◌&&◌, ◌||◌, ◌==◌, nat_le, List, [], ◌∷◌, ◌++◌, length, Option, Some, None, count_by, take_while, codes, bytes_eq, if◌then◌else◌}
 use Rattle.std.specs.Option.{option_map_or}
 use Rattle.std.specs.List.{list_any}
@@ -155,8 +156,8 @@ HasNone earlier number line None = IsTrue (not (is_ignored line)) → BreaksNone
 abbrev pub with_line : List CardText → ℕ → List ℕ → List CardText
 with_line earlier number line = if is_ignored line then earlier else card_of number line ∷ earlier
 
--- Of the lines, of which the first has that number and stands behind these cards, the least with a fault of form is that
--- card, and that is its first fault.
+-- Of the lines, of which the first has that number and stands behind these cards, the least with a fault of form is
+-- that card, and that is its first fault.
 abbrev pub FormFault : List CardText → ℕ → List (List ℕ) → ℕ → Why → Type 0
 FormFault earlier number [] card why = ⊥
 FormFault earlier number (line ∷ lines) card why =
@@ -213,7 +214,8 @@ pub record HasNameFault (cards own : List CardText) (c : CardText) (why : Why) :
 abbrev pub own_program : List CardText → CardText → List CardText → List CardText
 own_program earlier c later = since_program earlier ++ c ∷ take_while (λ other. not (is_called (codes "PEND") other)) later
 
--- Of the cards that stand behind these others, the least that names what isn't there is that card, and that is its fault.
+-- Of the cards that stand behind these others, the least that names what isn't there is that card, and that is its
+-- fault.
 abbrev pub NameFault : List CardText → List CardText → List CardText → ℕ → Why → Type 0
 NameFault cards earlier [] card why = ⊥
 NameFault cards earlier (c ∷ later) card why =
@@ -237,7 +239,8 @@ pub record LacksName (lines : List (List ℕ)) (card : ℕ) (why : Why) : Type 0
 abbrev pub LinesFault : List (List ℕ) → ℕ → Why → Type 0
 LinesFault lines card why = FormFault [] 1 lines card why ⊎ (LacksEnd lines card why ⊎ LacksName lines card why)
 
--- The input has that first fault: too many bytes, at the card that holds the first byte too many; else that of its lines.
+-- The input has that first fault: too many bytes, at the card that holds the first byte too many; else that of its
+-- lines.
 pub record IsFirstFault (bytes : List ℕ) (card : ℕ) (why : Why) : Type 0 where
   pub by_size : most_bytes < length bytes → (card ≡ number_at bytes most_bytes) × (why ≡ TooLong)
   pub by_card : length bytes ≤ most_bytes → LinesFault (lines_of bytes) card why

@@ -59,7 +59,8 @@ fn push_work(out: &mut Vec<u8>) -> Result<(), NoMemory>
 fn push_rounds(out: &mut Vec<u8>, rounds: u8) -> Result<(), NoMemory>
     requires { rounds ≤ 60 }
     ensures { OnOk result
-        (out.new.items ≡ out.old.items ++ flat_map line_with_feed (flat_map round_cards (one_to rounds))) }
+        (out.new.items ≡ out.old.items
+        ++ flat_map line_with_feed (flat_map round_cards (one_to rounds))) }
 {
     for done in 0..rounds {
         push_round(out, done + 1)?;
@@ -92,7 +93,8 @@ fn push_sub(out: &mut Vec<u8>) -> Result<(), NoMemory>
 fn push_routines(out: &mut Vec<u8>, routines: u8) -> Result<(), NoMemory>
     requires { routines ≤ 60 }
     ensures { OnOk result
-        (out.new.items ≡ out.old.items ++ flat_map line_with_feed (flat_map keep_cards (one_to routines))) }
+        (out.new.items ≡ out.old.items
+        ++ flat_map line_with_feed (flat_map keep_cards (one_to routines))) }
 {
     for done in 0..routines {
         push_routine(out, done + 1)?;
@@ -138,7 +140,8 @@ fn push_numbered_cards(
 ) -> Result<(), NoMemory>
     requires { most ≤ 60 }
     ensures { OnOk result (out.new.items
-        ≡ out.old.items ++ flat_map line_with_feed (map (numbered_card front.now back.now) (one_to most))) }
+        ≡ out.old.items
+        ++ flat_map line_with_feed (map (numbered_card front.now back.now) (one_to most))) }
 {
     for done in 0..most {
         push_numbered_card(out, front, back, done + 1)?;
@@ -155,7 +158,8 @@ fn push_numbered_card(
 ) -> Result<(), NoMemory>
     requires { number ≤ 60 }
     ensures { OnOk result
-        (out.new.items ≡ out.old.items ++ line_with_feed (numbered_card front.now back.now number)) }
+        (out.new.items ≡ out.old.items
+        ++ line_with_feed (numbered_card front.now back.now number)) }
 {
     push_bytes(out, front)?;
     push_decimal(out, u64::from(number))?;

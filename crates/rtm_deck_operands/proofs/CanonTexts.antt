@@ -1,7 +1,7 @@
 -- Operands as they are written: they spell their values, are plain, and no spelling is shorter.
 use Rattle.std.proofs.Common.{◌≡◌, ℕ, zero, suc, ◌+◌, ◌-◌, ◌^◌, ◌<◌, ◌≤◌, Bool, true, false, not, cond, ◌&&◌, eqb, leb, List, [], ◌∷◌, ◌++◌, append_assoc, length, Option, Some, None, refl, ap, sym, subst, ◌∙◌, length-append, inl, inr, arith}
 use Rattle.std.specs.List.{AllByRecursion, list_all, join_with_byte}
-use Rattle.std.proofs.lemmas.Bool.{eqb-true, eq-eqb}
+use Rattle.std.proofs.lemmas.Bool.{eqb-true, eq-eqb, and_parts}
 use Rattle.std.proofs.lemmas.Option.{same_Some}
 use Rattle.std.proofs.lemmas.List.{append-nil}
 use Rattle.std.proofs.lemmas.Bool.Decides.{nat_tests}
@@ -27,7 +27,7 @@ use Rattle.rtm_deck_operands.specs.Name.{trimmed_text, padded_text, is_padded_na
 use Rattle.rtm_deck_operands.specs.Numeral.{decimal_of, hexadecimal_of}
 use Rattle.rtm_deck_operands.specs.Value.{yes_or_no, three_text, class_text, scope_text, is_return_code, is_abend_code, SpellsDecimal, SpellsReason, Spells, fits, value_text}
 use Rattle.rtm_deck_operands.specs.Slot.{operand_text, SpellsOperand, LeftOutMeans, StandsBehind, Stands, SpellsSlots, is_flag, is_number, is_default, canon_operand, canon_operands, separated_operands, field_of, means_nothing, slot_fits, slots_fit, is_operand_byte, is_operand_text, is_key_byte, kind_is_well_made, default_fits, slot_is_well_made}
-use Rattle.rtm_deck_operands.proofs.Names.{both, padded_parts, trimmed_text-padded_text, name_parts, length-name}
+use Rattle.rtm_deck_operands.proofs.Names.{padded_parts, trimmed_text-padded_text, name_parts, length-name}
 use Rattle.rtm_deck_operands.proofs.ValueTexts.{not_S000}
 use Rattle.rtm_text.proofs.NumeralLaws.{numeral-spells, numeral-some, numeral-few, numeral-shortest}
 use Rattle.rtm_deck_operands.proofs.Numerals.{numeral-plain}
@@ -83,13 +83,13 @@ code_range (Sys n) e = below_limit n 4095 e
 code_range (User n) e = below_limit n 4095 e
 
 abend_range : (code : Code) → is_abend_code code ≡ true → IsInRange code
-abend_range code e = code_range code (both (in_range code) _ e).0
+abend_range code e = code_range code (and_parts (in_range code) _ e).0
 
 -- a value that fits is spelled by its text
 pub Spells-value_text : (kind : Kind) (value : Value) → kind_is_well_made kind ≡ true → fits kind value ≡ true → Spells kind (value_text kind value) value
 Spells-value_text (kinds.Word word) values.Word made e = refl
 Spells-value_text (kinds.Number least most) (values.Number n) made e =
-    let b = both (leb least n) (leb n most) e in
+    let b = and_parts (leb least n) (leb n most) e in
     let low = below_limit least n b.0 in
     let high = below_limit n most b.1 in
     let top = below_limit most 4294967295 made in
@@ -131,7 +131,7 @@ name_byte_is_plain b e = grind (arith, nat_tests)
 name_bytes_are_plain : (bytes : List ℕ) → list_all is_name_byte bytes ≡ true → list_all is_operand_byte bytes ≡ true
 name_bytes_are_plain [] e = refl
 name_bytes_are_plain (b ∷ bs) e =
-    let p = both (is_name_byte b) (list_all is_name_byte bs) e in
+    let p = and_parts (is_name_byte b) (list_all is_name_byte bs) e in
     rw (name_byte_is_plain b p.0) (name_bytes_are_plain bs p.1)
 
 name_is_plain : (text : List ℕ) → is_name text ≡ true → is_operand_text text ≡ true
@@ -195,8 +195,8 @@ record SlotParts (slot : Slot) : Type 0 where
 
 slot_parts : (slot : Slot) → slot_is_well_made slot ≡ true → SlotParts slot
 slot_parts slot e =
-    let outer = both (list_all is_key_byte (trimmed_text slot.key) && kind_is_well_made slot.kind) (default_fits slot.kind slot.left_out) e in
-    let inner = both (list_all is_key_byte (trimmed_text slot.key)) (kind_is_well_made slot.kind) outer.0 in
+    let outer = and_parts (list_all is_key_byte (trimmed_text slot.key) && kind_is_well_made slot.kind) (default_fits slot.kind slot.left_out) e in
+    let inner = and_parts (list_all is_key_byte (trimmed_text slot.key)) (kind_is_well_made slot.kind) outer.0 in
     record { key = inner.0; kind = inner.1 }
 
 same_flag : (flag : Bool) (value : Value) → is_flag flag value ≡ true → value ≡ values.Flag flag
@@ -258,25 +258,25 @@ SpellsSlots-canon [] [] made fit = refl
 SpellsSlots-canon [] (value ∷ given) made fit = absurd cc
 SpellsSlots-canon (slot ∷ slots) [] made fit = absurd cc
 SpellsSlots-canon (slot ∷ slots) (value ∷ given) made fit =
-    let m = both (slot_is_well_made slot) (list_all slot_is_well_made slots) made in
-    let f = both (slot_fits slot value) (slots_fit slots given) fit in
+    let m = and_parts (slot_is_well_made slot) (list_all slot_is_well_made slots) made in
+    let f = and_parts (slot_fits slot value) (slots_fit slots given) fit in
     one_written slot slots value given m.0 f.0 (SpellsSlots-canon slots given m.1 f.1)
 
 -- Plain bytes.
 
 key_byte_is_plain : (b : ℕ) → is_key_byte b ≡ true → is_operand_byte b ≡ true
-key_byte_is_plain b e = (both (is_operand_byte b) (not (eqb b 61)) e).0
+key_byte_is_plain b e = (and_parts (is_operand_byte b) (not (eqb b 61)) e).0
 
 key_is_plain : (key : List ℕ) → list_all is_key_byte key ≡ true → list_all is_operand_byte key ≡ true
 key_is_plain [] e = refl
 key_is_plain (b ∷ bs) e =
-    let p = both (is_key_byte b) (list_all is_key_byte bs) e in
+    let p = and_parts (is_key_byte b) (list_all is_key_byte bs) e in
     rw (key_byte_is_plain b p.0) (key_is_plain bs p.1)
 
 keyed_is_plain : (key text : List ℕ) → list_all is_key_byte key ≡ true → is_operand_text text ≡ true → is_operand_text (operand_text key text) ≡ true
 keyed_is_plain [] text k e = e
 keyed_is_plain (b ∷ bs) text k e =
-    let bytes = (both (not (eqb (length text) 0)) (list_all is_operand_byte text) e).1 in
+    let bytes = (and_parts (not (eqb (length text) 0)) (list_all is_operand_byte text) e).1 in
     let front = key_is_plain (b ∷ bs) k in
     stands ((b ∷ bs) ++ 61 ∷ text) (omega arith) (rw (list_all-append is_operand_byte (b ∷ bs) (61 ∷ text), front, bytes) refl)
 
@@ -296,8 +296,8 @@ pub canon_is_plain : (slots : List Slot) (given : List (Option Value)) → list_
 canon_is_plain [] given made fit = tt
 canon_is_plain (slot ∷ slots) [] made fit = absurd cc
 canon_is_plain (slot ∷ slots) (value ∷ given) made fit =
-    let m = both (slot_is_well_made slot) (list_all slot_is_well_made slots) made in
-    let f = both (slot_fits slot value) (slots_fit slots given) fit in
+    let m = and_parts (slot_is_well_made slot) (list_all slot_is_well_made slots) made in
+    let f = and_parts (slot_fits slot value) (slots_fit slots given) fit in
     one_is_plain slot value (canon_operands slots given) m.0 f.0 (canon_is_plain slots given m.1 f.1)
 
 -- Lengths.

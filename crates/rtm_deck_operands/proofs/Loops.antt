@@ -6,15 +6,15 @@ use Rattle.std.specs.List.{AllByRecursion, position_from, remove}
 use Rattle.std.proofs.Math.ListN.{set}
 use Rattle.std.proofs.Math.Nat.{pow-le-pow_right}
 use Rattle.std.proofs.Math.Seq.{take-suc, set-append_seam}
-use Rattle.std.proofs.lemmas.List.{length-map, length-take-le, get_or-map, take-map, drop-map, map-append}
+use Rattle.std.proofs.lemmas.List.{length-map, length-take-le, get_or-map, take-map, drop-map, map-append, drop_all}
 use Rattle.rtm_cards.specs.declared.span.Span.{Span}
 use Rattle.rtm_cards.specs.Span.{text_of, IsWithin}
 use Rattle.rtm_deck_operands.specs.Name.{trimmed_text}
 use Rattle.rtm_deck_operands.specs.declared.part.Part.{Part}
 use Rattle.rtm_deck_operands.specs.declared.slot.Slot.{Slot}
 use Rattle.rtm_deck_operands.specs.declared.value.Value.{Value}
-use Rattle.rtm_deck_operands.specs.Part.{span_of, part_texts, AreWithin}
-use Rattle.rtm_deck_operands.specs.Reading.{taken_value, operand_in, place_of, take_operand}
+use Rattle.rtm_deck_operands.specs.inner.Part.{span_of, part_texts, AreWithin}
+use Rattle.rtm_deck_operands.specs.inner.Reading.{taken_value, operand_in, place_of, take_operand}
 
 -- what holds of each element holds of the one at an index
 pub all_at : {X : Type 0} (P : X → Type 0) (xs : List X) (i : ℕ) (d : X) → AllByRecursion P xs → i < length xs → P (get_or xs i d)
@@ -44,12 +44,6 @@ position_found f p xs i d h e = position_next f p xs i d h ∙ rw e refl
 pub position_missed : {X : Type 0} (f : X → List ℕ) (p : List ℕ → Bool) (xs : List X) (i : ℕ) (d : X) → i < length xs →
     p (f (get_or xs i d)) ≡ false → position_from p i (drop i (map f xs)) ≡ position_from p (i + 1) (drop (i + 1) (map f xs))
 position_missed f p xs i d h e = position_next f p xs i d h ∙ rw e refl
-
-drop_all : (n : ℕ) (xs : List (List ℕ)) → length xs ≤ n → drop n xs ≡ []
-drop_all zero [] h = refl
-drop_all (suc n) [] h = refl
-drop_all zero (x ∷ xs) h = absurd (omega arith)
-drop_all (suc n) (x ∷ xs) h = drop_all n xs (omega arith)
 
 -- behind the last one there is none
 pub position_end : {X : Type 0} (f : X → List ℕ) (p : List ℕ → Bool) (xs : List X) (i : ℕ) → length xs ≤ i →

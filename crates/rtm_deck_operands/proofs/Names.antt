@@ -4,17 +4,11 @@ use Rattle.std.specs.Prelude.{replicate}
 use Rattle.std.specs.List.{list_all, prefix_len}
 use Rattle.std.proofs.Math.Seq.{drop-append_seam}
 use Rattle.std.proofs.lemmas.List.Sums.{take_while-cons}
-use Rattle.std.proofs.lemmas.Bool.{ne_eqb, eqb-true}
+use Rattle.std.proofs.lemmas.Bool.{ne_eqb, eqb-true, and_parts}
 use Rattle.std.proofs.lemmas.Bool.Decides.{nat_tests}
+use Rattle.std.proofs.lemmas.List.{length-replicate, length-take, take_min, take-append-drop}
 use Rattle.rtm_cards.specs.Name.{is_letter, is_name_byte, is_name}
 use Rattle.rtm_deck_operands.specs.Name.{padded_text, trimmed_text, is_padded_name}
-
--- both of two tests that pass together
-pub both : (a b : Bool) → (a && b) ≡ true → (a ≡ true) × (b ≡ true)
-both true true e = (refl, refl)
-both true false e = absurd cc
-both false true e = absurd cc
-both false false e = absurd cc
 
 trimmed_text-cons : (b : ℕ) (bs : List ℕ) → trimmed_text (b ∷ bs) ≡ cond (cond (eqb b 32) false true) (b ∷ trimmed_text bs) []
 trimmed_text-cons b bs = take_while-cons (λ x. cond (eqb x 32) false true) b bs
@@ -35,7 +29,7 @@ letter_stands b e h = let f : is_letter 32 ≡ true = rw h at e in absurd cc
 trimmed_text-text : (text : List ℕ) (k : ℕ) → list_all is_name_byte text ≡ true → trimmed_text (text ++ replicate k 32) ≡ text
 trimmed_text-text [] k e = trimmed_text-blanks k
 trimmed_text-text (b ∷ bs) k e =
-    let parts = both (is_name_byte b) (list_all is_name_byte bs) e in
+    let parts = and_parts (is_name_byte b) (list_all is_name_byte bs) e in
     trimmed_text-byte b (bs ++ replicate k 32) (name_byte_stands b parts.0) ∙ ap (λ xs. b ∷ xs) (trimmed_text-text bs k parts.1)
 
 -- what a name is made of
@@ -46,8 +40,8 @@ pub record NameParts (b : ℕ) (bs : List ℕ) : Type 0 where
 
 pub name_parts : (b : ℕ) (bs : List ℕ) → is_name (b ∷ bs) ≡ true → NameParts b bs
 name_parts b bs e =
-    let outer = both (is_letter b && ltb (length bs) 8) (list_all is_name_byte bs) e in
-    let inner = both (is_letter b) (ltb (length bs) 8) outer.0 in
+    let outer = and_parts (is_letter b && ltb (length bs) 8) (list_all is_name_byte bs) e in
+    let inner = and_parts (is_letter b) (ltb (length bs) 8) outer.0 in
     let few = inner.1 in
     record { letter = inner.0; short = grind (arith, nat_tests); bytes = outer.1 }
 
@@ -63,10 +57,6 @@ pub length-name : (text : List ℕ) → is_name text ≡ true → (1 ≤ length 
 length-name [] e = absurd cc
 length-name (b ∷ bs) e = let p = name_parts b bs e in let short = p.short in (omega arith, omega arith)
 
-length-replicate : (k b : ℕ) → length (replicate k b) ≡ k
-length-replicate zero b = refl
-length-replicate (suc k) b = ap suc (length-replicate k b)
-
 all_blanks : (k : ℕ) → list_all (λ b. eqb b 32) (replicate k 32) ≡ true
 all_blanks zero = refl
 all_blanks (suc k) = all_blanks k
@@ -76,27 +66,18 @@ pub is_padded-padded_text : (text : List ℕ) → is_name text ≡ true → is_p
 is_padded-padded_text text e =
     let few = length-name text e in
     let size : length (padded_text text) ≡ 8 =
-    length-append text (replicate (8 - length text) 32) ∙ rw (length-replicate (8 - length text) 32) (omega (arith, few.1)) in
+    length-append text (replicate (8 - length text) 32) ∙ rw (length-replicate {A = ℕ} (8 - length text) 32) (omega (arith, few.1)) in
     rw (size, trimmed_text-padded_text text e, e, drop-append_seam text (replicate (8 - length text) 32)) (all_blanks (8 - length text))
 
--- what is taken is as much as its length says
-take_taken : (n : ℕ) (xs : List ℕ) → take (length (take n xs)) xs ≡ take n xs
-take_taken zero xs = refl
-take_taken (suc n) [] = refl
-take_taken (suc n) (x ∷ xs) = ap (λ ys. x ∷ ys) (take_taken n xs)
-
 take-trimmed_text : (bytes : List ℕ) → take (length (trimmed_text bytes)) bytes ≡ trimmed_text bytes
-take-trimmed_text bytes = take_taken (prefix_len (λ b. cond (eqb b 32) false true) bytes) bytes
-
-pub take_and_drop : {X : Type 0} (n : ℕ) (xs : List X) → take n xs ++ drop n xs ≡ xs
-take_and_drop zero xs = refl
-take_and_drop (suc n) [] = refl
-take_and_drop (suc n) (x ∷ xs) = ap (λ ys. x ∷ ys) (take_and_drop n xs)
+take-trimmed_text bytes =
+    let n = prefix_len (λ b. cond (eqb b 32) false true) bytes in
+    ap (λ k. take k bytes) (length-take n bytes) ∙ take_min n bytes
 
 blanks_are : (xs : List ℕ) → list_all (λ b. eqb b 32) xs ≡ true → xs ≡ replicate (length xs) 32
 blanks_are [] e = refl
 blanks_are (x ∷ xs) e =
-    let p = both (eqb x 32) (list_all (λ b. eqb b 32) xs) e in
+    let p = and_parts (eqb x 32) (list_all (λ b. eqb b 32) xs) e in
     rw (eqb-true x 32 p.0) (ap (λ ys. 32 ∷ ys) (blanks_are xs p.1))
 
 -- a padded name is its name with the padding
@@ -108,10 +89,10 @@ pub padded_parts : (bytes : List ℕ) → is_padded_name bytes ≡ true → Padd
 padded_parts bytes e =
     let name = trimmed_text bytes in
     let rest = drop (length name) bytes in
-    let outer = both (eqb (length bytes) 8 && is_name name) (list_all (λ b. eqb b 32) rest) e in
-    let inner = both (eqb (length bytes) 8) (is_name name) outer.0 in
+    let outer = and_parts (eqb (length bytes) 8 && is_name name) (list_all (λ b. eqb b 32) rest) e in
+    let inner = and_parts (eqb (length bytes) 8) (is_name name) outer.0 in
     let size : length bytes ≡ 8 = eqb-true (length bytes) 8 inner.0 in
-    let split : name ++ rest ≡ bytes = ap (λ xs. xs ++ rest) (sym (take-trimmed_text bytes)) ∙ take_and_drop (length name) bytes in
+    let split : name ++ rest ≡ bytes = ap (λ xs. xs ++ rest) (sym (take-trimmed_text bytes)) ∙ take-append-drop (length name) bytes in
     let len : length name + length rest ≡ 8 = sym (length-append name rest) ∙ (ap length split ∙ size) in
     let many : length rest ≡ 8 - length name = omega arith in
     record {

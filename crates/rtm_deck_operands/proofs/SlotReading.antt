@@ -2,9 +2,9 @@
 use Rattle.std.proofs.Common.{◌≡◌, ℕ, zero, suc, ◌+◌, ◌<◌, ◌≤◌, Bool, true, false, not, cond, ◌&&◌, eqb, leb, List, [], ◌∷◌, ◌++◌, length, take, drop, get_or, drop-cons, Option, Some, None, option_map, option_and_then, is_some, IfSome, IfNone, length-append, refl, ap, sym, subst, ◌∙◌, inl, inr, arith}
 use Rattle.std.specs.Prelude.{◌⊎◌, bytes_eq}
 use Rattle.std.specs.List.{AllByRecursion, list_all, position_from, remove}
-use Rattle.std.proofs.lemmas.Bool.{eqb-true}
+use Rattle.std.proofs.lemmas.Bool.{eqb-true, and_parts, not-true}
 use Rattle.std.proofs.lemmas.Bool.Decides.{nat_tests}
-use Rattle.std.proofs.lemmas.List.{nil_from_length}
+use Rattle.std.proofs.lemmas.List.{nil_from_length, take-append-drop}
 use Rattle.std.proofs.lemmas.Option.{option_and_then_some, same_Some}
 use Rattle.std.proofs.lemmas.Slice.Eq.{bytes_eq-Decides}
 use Rattle.rtm_deck_operands.specs.Name.{trimmed_text}
@@ -16,8 +16,7 @@ use Rattle.rtm_deck_operands.specs.declared.slot.LeftOut.TheVariants as left_out
 use Rattle.rtm_deck_operands.specs.declared.slot.Slot.{Slot}
 use Rattle.rtm_deck_operands.specs.Value.{fits}
 use Rattle.rtm_deck_operands.specs.Slot.{operand_text, SpellsOperand, LeftOutMeans, StandsBehind, Stands, SpellsSlots, is_key_byte, is_positional, is_needed, slot_is_well_made, has_other_key, slots_are_in_order, kind_is_well_made, default_fits, slots_fit, slot_fits, means_nothing, well_made}
-use Rattle.rtm_deck_operands.specs.Reading.{has_key, place_of, meaning_of, operand_in, Taken, taken_value, take_at, take_operand, read_slots}
-use Rattle.rtm_deck_operands.proofs.Names.{both, take_and_drop}
+use Rattle.rtm_deck_operands.specs.inner.Reading.{has_key, place_of, meaning_of, operand_in, Taken, taken_value, take_at, take_operand, read_slots}
 use Rattle.rtm_deck_operands.proofs.ValueTexts.{if_Some, option_map-Some, fits-spelled}
 use Rattle.rtm_deck_operands.proofs.SlotTexts.{behind_key-there, operand_in-Some, operand_in-spelled, Lack, other_lacks, place_of-positional, stands_first, operand_text-keyword, place_of-keyword, position-none, position-there, lack_more, get_seam, remove_seam}
 
@@ -51,7 +50,7 @@ place_of-Some (k ∷ ks) operands i e =
     record { there = omega (arith, position-below (has_key (k ∷ ks)) operands 0 i e); behind = tt }
 
 around : (operands : List (List ℕ)) (i : ℕ) → i < length operands → operands ≡ take i operands ++ get_or operands i [] ∷ drop (suc i) operands
-around operands i h = sym (take_and_drop i operands) ∙ ap (λ ys. take i operands ++ ys) (drop-cons operands i [] h)
+around operands i h = sym (take-append-drop i operands) ∙ ap (λ ys. take i operands ++ ys) (drop-cons operands i [] h)
 
 -- How a slot's value came about.
 abbrev ComesAbout : Slot → List (List ℕ) → Taken → Type 0
@@ -102,12 +101,8 @@ read_slots-Some (slot ∷ slots) operands given e =
 
 key_is_clean : (slot : Slot) → slot_is_well_made slot ≡ true → list_all is_key_byte (trimmed_text slot.key) ≡ true
 key_is_clean slot e =
-    let outer = both (list_all is_key_byte (trimmed_text slot.key) && kind_is_well_made slot.kind) (default_fits slot.kind slot.left_out) e in
-    (both (list_all is_key_byte (trimmed_text slot.key)) (kind_is_well_made slot.kind) outer.0).0
-
-not_true : (b : Bool) → not b ≡ true → b ≡ false
-not_true true e = absurd cc
-not_true false e = refl
+    let outer = and_parts (list_all is_key_byte (trimmed_text slot.key) && kind_is_well_made slot.kind) (default_fits slot.kind slot.left_out) e in
+    (and_parts (list_all is_key_byte (trimmed_text slot.key)) (kind_is_well_made slot.kind) outer.0).0
 
 differ : (key other : List ℕ) → bytes_eq other key ≡ false → other ≡ key → ⊥
 differ key other e h = let d = bytes_eq-Decides other key in let f = d.1 h in absurd cc
@@ -115,9 +110,9 @@ differ key other e h = let d = bytes_eq-Decides other key in let f = d.1 h in ab
 slot_lacks : (key operand : List ℕ) (slot : Slot) (value : Value) → list_all is_key_byte key ≡ true → slot_is_well_made slot ≡ true →
     has_other_key key slot ≡ true → SpellsOperand slot operand value → has_key key operand ≡ false
 slot_lacks key operand slot value clean made other s =
-    let p = both (not (is_positional slot)) (not (bytes_eq (trimmed_text slot.key) key)) other in
-    let keyed = operand_text-keyword (trimmed_text slot.key) s.0 (not_true (is_positional slot) p.0) in
-    rw (s.1, keyed) (other_lacks key (trimmed_text slot.key) s.0 clean (key_is_clean slot made) (differ key (trimmed_text slot.key) (not_true (bytes_eq (trimmed_text slot.key) key) p.1)))
+    let p = and_parts (not (is_positional slot)) (not (bytes_eq (trimmed_text slot.key) key)) other in
+    let keyed = operand_text-keyword (trimmed_text slot.key) s.0 (not-true (is_positional slot) p.0) in
+    rw (s.1, keyed) (other_lacks key (trimmed_text slot.key) s.0 clean (key_is_clean slot made) (differ key (trimmed_text slot.key) (not-true (bytes_eq (trimmed_text slot.key) key) p.1)))
 
 others_lack : (key : List ℕ) (slots : List Slot) (operands : List (List ℕ)) (given : List (Option Value)) → list_all is_key_byte key ≡ true →
     list_all (has_other_key key) slots ≡ true → list_all slot_is_well_made slots ≡ true → SpellsSlots slots operands given → Lack key operands
@@ -125,11 +120,11 @@ others_lack key [] operands [] clean other made s = rw s tt
 others_lack key [] operands (value ∷ given) clean other made s = absurd s
 others_lack key (slot ∷ slots) operands [] clean other made s = absurd s
 others_lack key (slot ∷ slots) operands (value ∷ given) clean other made (inl s) =
-    others_lack key slots operands given clean (both (has_other_key key slot) (list_all (has_other_key key) slots) other).1
-    (both (slot_is_well_made slot) (list_all slot_is_well_made slots) made).1 s.1
+    others_lack key slots operands given clean (and_parts (has_other_key key slot) (list_all (has_other_key key) slots) other).1
+    (and_parts (slot_is_well_made slot) (list_all slot_is_well_made slots) made).1 s.1
 others_lack key (slot ∷ slots) operands (value ∷ given) clean other made (inr s) =
-    let o = both (has_other_key key slot) (list_all (has_other_key key) slots) other in
-    let m = both (slot_is_well_made slot) (list_all slot_is_well_made slots) made in
+    let o = and_parts (has_other_key key slot) (list_all (has_other_key key) slots) other in
+    let m = and_parts (slot_is_well_made slot) (list_all slot_is_well_made slots) made in
     let rest = others_lack key slots (s.0.front ++ s.0.back) given clean o.1 m.1 s.1 in
     rw s.0.whole (lack_more key s.0.operand s.0.front s.0.back rest (slot_lacks key s.0.operand slot s.0.spelled clean m.0 o.0 s.0.spells))
 
@@ -153,13 +148,13 @@ take_left_out : (slot : Slot) (slots : List Slot) (operands : List (List ℕ)) (
     slots_are_in_order (slot ∷ slots) ≡ true → list_all slot_is_well_made (slot ∷ slots) ≡ true → LeftOutMeans slot.left_out value → SpellsSlots slots operands given →
     take_operand slot operands ≡ Some (taken_value operands value)
 take_left_out slot slots operands value given order made means s =
-    let first = both (cond (is_positional slot) (is_needed slot.left_out) (list_all (has_other_key (trimmed_text slot.key)) slots)) (slots_are_in_order slots) order in
+    let first = and_parts (cond (is_positional slot) (is_needed slot.left_out) (list_all (has_other_key (trimmed_text slot.key)) slots)) (slots_are_in_order slots) order in
     go (is_positional slot) refl first.0
   where
     go : (t : Bool) → is_positional slot ≡ t → cond t (is_needed slot.left_out) (list_all (has_other_key (trimmed_text slot.key)) slots) ≡ true → take_operand slot operands ≡ Some (taken_value operands value)
     go true h e = absurd (needed_stands slot.left_out value e means)
     go false h e =
-        let m = both (slot_is_well_made slot) (list_all slot_is_well_made slots) made in
+        let m = and_parts (slot_is_well_made slot) (list_all slot_is_well_made slots) made in
         let lack = others_lack (trimmed_text slot.key) slots operands given (key_is_clean slot m.0) e m.1 s in
         let place : place_of (trimmed_text slot.key) operands ≡ None = place_of-keyword (trimmed_text slot.key) operands h ∙ position-none (trimmed_text slot.key) operands 0 lack in
         rw (place, meaning_of-means slot.left_out value means) refl
@@ -176,7 +171,7 @@ take_stands : (slot : Slot) (slots : List Slot) (operands : List (List ℕ)) (va
     slots_are_in_order (slot ∷ slots) ≡ true → list_all slot_is_well_made (slot ∷ slots) ≡ true → (st : Stands slot operands value) →
     SpellsSlots slots (st.front ++ st.back) given → take_operand slot operands ≡ Some (taken_value (st.front ++ st.back) value)
 take_stands slot slots operands value given order made st s =
-    let first = both (cond (is_positional slot) (is_needed slot.left_out) (list_all (has_other_key (trimmed_text slot.key)) slots)) (slots_are_in_order slots) order in
+    let first = and_parts (cond (is_positional slot) (is_needed slot.left_out) (list_all (has_other_key (trimmed_text slot.key)) slots)) (slots_are_in_order slots) order in
     go (is_positional slot) refl first.0
   where
     go : (t : Bool) → is_positional slot ≡ t → cond t (is_needed slot.left_out) (list_all (has_other_key (trimmed_text slot.key)) slots) ≡ true → take_operand slot operands ≡ Some (taken_value (st.front ++ st.back) value)
@@ -186,7 +181,7 @@ take_stands slot slots operands value given order made st s =
         let zero_th : length st.front ≡ 0 = ap length none in
         take_placed slot operands value st (rw (whole, zero_th) (place_of-positional (trimmed_text slot.key) st.operand st.back h))
     go false h e =
-        let m = both (slot_is_well_made slot) (list_all slot_is_well_made slots) made in
+        let m = and_parts (slot_is_well_made slot) (list_all slot_is_well_made slots) made in
         let lack = others_lack (trimmed_text slot.key) slots (st.front ++ st.back) given (key_is_clean slot m.0) e m.1 s in
         let keyed = has_key-spelled slot st.operand st.spelled h st.spells in
         let found = position-there (trimmed_text slot.key) st.operand st.front st.back 0 lack keyed in
@@ -201,12 +196,12 @@ read_slots-spelled [] operands [] order made s = rw s refl
 read_slots-spelled [] operands (value ∷ given) order made s = absurd s
 read_slots-spelled (slot ∷ slots) operands [] order made s = absurd s
 read_slots-spelled (slot ∷ slots) operands (value ∷ given) order made (inl s) =
-    let o = both (cond (is_positional slot) (is_needed slot.left_out) (list_all (has_other_key (trimmed_text slot.key)) slots)) (slots_are_in_order slots) order in
-    let m = both (slot_is_well_made slot) (list_all slot_is_well_made slots) made in
+    let o = and_parts (cond (is_positional slot) (is_needed slot.left_out) (list_all (has_other_key (trimmed_text slot.key)) slots)) (slots_are_in_order slots) order in
+    let m = and_parts (slot_is_well_made slot) (list_all slot_is_well_made slots) made in
     rw (take_left_out slot slots operands value given order made s.0 s.1, read_slots-spelled slots operands given o.1 m.1 s.1) refl
 read_slots-spelled (slot ∷ slots) operands (value ∷ given) order made (inr s) =
-    let o = both (cond (is_positional slot) (is_needed slot.left_out) (list_all (has_other_key (trimmed_text slot.key)) slots)) (slots_are_in_order slots) order in
-    let m = both (slot_is_well_made slot) (list_all slot_is_well_made slots) made in
+    let o = and_parts (cond (is_positional slot) (is_needed slot.left_out) (list_all (has_other_key (trimmed_text slot.key)) slots)) (slots_are_in_order slots) order in
+    let m = and_parts (slot_is_well_made slot) (list_all slot_is_well_made slots) made in
     rw (take_stands slot slots operands value given order made s.0 s.1, read_slots-spelled slots (s.0.front ++ s.0.back) given o.1 m.1 s.1) refl
 
 -- What is spelled fits.
@@ -232,11 +227,11 @@ slots_fit-spelled [] operands [] made s = refl
 slots_fit-spelled [] operands (value ∷ given) made s = absurd s
 slots_fit-spelled (slot ∷ slots) operands [] made s = absurd s
 slots_fit-spelled (slot ∷ slots) operands (value ∷ given) made (inl s) =
-    let m = both (slot_is_well_made slot) (list_all slot_is_well_made slots) made in
-    let d = both (list_all is_key_byte (trimmed_text slot.key) && kind_is_well_made slot.kind) (default_fits slot.kind slot.left_out) m.0 in
+    let m = and_parts (slot_is_well_made slot) (list_all slot_is_well_made slots) made in
+    let d = and_parts (list_all is_key_byte (trimmed_text slot.key) && kind_is_well_made slot.kind) (default_fits slot.kind slot.left_out) m.0 in
     rw (slot_fits-means slot value d.1 s.0) (slots_fit-spelled slots operands given m.1 s.1)
 slots_fit-spelled (slot ∷ slots) operands (value ∷ given) made (inr s) =
-    let m = both (slot_is_well_made slot) (list_all slot_is_well_made slots) made in
+    let m = and_parts (slot_is_well_made slot) (list_all slot_is_well_made slots) made in
     rw (s.0.is, fits-spelled slot.kind s.0.spells.0 s.0.spelled s.0.spells.2) (slots_fit-spelled slots (s.0.front ++ s.0.back) given m.1 s.1)
 
 -- No operand is left over, and each slot takes one at most.
@@ -262,8 +257,8 @@ few_slots n e = grind (arith, nat_tests)
 
 pub table_parts : (slots : List Slot) → well_made slots ≡ true → TableParts slots
 table_parts slots e =
-    let outer = both (leb (length slots) 8 && list_all slot_is_well_made slots) (slots_are_in_order slots) e in
-    let inner = both (leb (length slots) 8) (list_all slot_is_well_made slots) outer.0 in
+    let outer = and_parts (leb (length slots) 8 && list_all slot_is_well_made slots) (slots_are_in_order slots) e in
+    let inner = and_parts (leb (length slots) 8) (list_all slot_is_well_made slots) outer.0 in
     record { few = few_slots (length slots) inner.0; made = inner.1; order = outer.1 }
 
 -- What a reading says.

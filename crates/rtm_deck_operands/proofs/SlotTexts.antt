@@ -3,9 +3,10 @@ use Rattle.std.proofs.Common.{◌≡◌, ℕ, zero, suc, ◌+◌, ◌-◌, ◌<�
 use Rattle.std.specs.Prelude.{◌⊎◌, bytes_eq}
 use Rattle.std.specs.List.{AllByRecursion, list_all, position_from, remove}
 use Rattle.std.proofs.Math.Seq.{drop-append_seam, take-append_seam}
-use Rattle.std.proofs.lemmas.Bool.{eqb-true}
+use Rattle.std.proofs.lemmas.Bool.{eqb-true, and_parts}
 use Rattle.std.proofs.lemmas.Option.{option_and_then_some, same_Some}
 use Rattle.std.proofs.lemmas.Slice.Eq.{bytes_eq-Decides}
+use Rattle.std.proofs.lemmas.List.{take-append-drop}
 use Rattle.rtm_deck_operands.specs.Name.{trimmed_text}
 use Rattle.rtm_deck_operands.specs.declared.value.Value.{Value}
 use Rattle.rtm_deck_operands.specs.declared.value.Value.TheVariants as values
@@ -14,8 +15,7 @@ use Rattle.rtm_deck_operands.specs.declared.slot.LeftOut.TheVariants as left_out
 use Rattle.rtm_deck_operands.specs.declared.slot.Slot.{Slot}
 use Rattle.rtm_deck_operands.specs.Value.{Spells}
 use Rattle.rtm_deck_operands.specs.Slot.{equals, operand_text, SpellsOperand, LeftOutMeans, StandsBehind, Stands, SpellsSlots, is_key_byte, is_operand_byte, is_positional, is_needed, slot_is_well_made, has_other_key, slots_are_in_order, kind_is_well_made, default_fits}
-use Rattle.rtm_deck_operands.specs.Reading.{value_in, behind_equals, behind_key, has_key, written_in, place_of, meaning_of, operand_in, Taken, taken_value, take_at, take_operand, read_slots}
-use Rattle.rtm_deck_operands.proofs.Names.{both, take_and_drop}
+use Rattle.rtm_deck_operands.specs.inner.Reading.{value_in, behind_equals, behind_key, has_key, written_in, place_of, meaning_of, operand_in, Taken, taken_value, take_at, take_operand, read_slots}
 use Rattle.rtm_deck_operands.proofs.ValueTexts.{value_in-spelled, Spells-value_in, if_Some, option_map-Some}
 
 -- What stands behind a key.
@@ -33,7 +33,7 @@ behind_key-Some key operand text e =
     let d = bytes_eq-Decides (take n operand) key in
     let front : take n operand ≡ key = d.0 p.0 in
     let back = behind_equals-Some (drop n operand) text p.1 in
-    sym (take_and_drop n operand) ∙ (ap (λ xs. xs ++ drop n operand) front ∙ ap (λ xs. key ++ xs) back)
+    sym (take-append-drop n operand) ∙ (ap (λ xs. xs ++ drop n operand) front ∙ ap (λ xs. key ++ xs) back)
 
 pub behind_key-there : (key text : List ℕ) → behind_key key (key ++ 61 ∷ text) ≡ Some text
 behind_key-there key text =
@@ -71,13 +71,13 @@ same_key : (key other : List ℕ) (text more : List ℕ) → list_all is_key_byt
 same_key [] [] text more ek eo e = refl
 same_key [] (o ∷ os) text more ek eo e =
     let h = same_head 61 o text (os ++ 61 ∷ more) e in
-    absurd (lacks_equals o (both (is_key_byte o) (list_all is_key_byte os) eo).0 (sym h.0))
+    absurd (lacks_equals o (and_parts (is_key_byte o) (list_all is_key_byte os) eo).0 (sym h.0))
 same_key (k ∷ ks) [] text more ek eo e =
     let h = same_head k 61 (ks ++ 61 ∷ text) more e in
-    absurd (lacks_equals k (both (is_key_byte k) (list_all is_key_byte ks) ek).0 h.0)
+    absurd (lacks_equals k (and_parts (is_key_byte k) (list_all is_key_byte ks) ek).0 h.0)
 same_key (k ∷ ks) (o ∷ os) text more ek eo e =
     let h = same_head k o (ks ++ 61 ∷ text) (os ++ 61 ∷ more) e in
-    let rest = same_key ks os text more (both (is_key_byte k) (list_all is_key_byte ks) ek).1 (both (is_key_byte o) (list_all is_key_byte os) eo).1 h.1 in
+    let rest = same_key ks os text more (and_parts (is_key_byte k) (list_all is_key_byte ks) ek).1 (and_parts (is_key_byte o) (list_all is_key_byte os) eo).1 h.1 in
     rw (h.0, rest) refl
 
 -- an operand of another key lacks the key

@@ -24,10 +24,10 @@ use Rattle.rtm_deck_operands.specs.declared.value.Res.{Res}
 use Rattle.rtm_deck_operands.specs.declared.value.Res.TheVariants as classes
 use Rattle.rtm_deck_operands.specs.declared.slot.Kind.{Kind}
 use Rattle.rtm_deck_operands.specs.declared.slot.Kind.TheVariants as kinds
-use Rattle.rtm_deck_operands.specs.Name.{padded_text, SpellsName, trimmed_text}
+use Rattle.rtm_deck_operands.specs.Name.{padded_text, SpellsName, trimmed_text, name_in}
 use Rattle.rtm_deck_operands.specs.Value.{yes_or_no, three_text, class_text, scope_text, is_return_code, is_abend_code, Spells, fits}
-use Rattle.rtm_deck_operands.specs.Reading.{value_if, number_in, name_in, flag_in, three_in, class_in, value_in}
-use Rattle.rtm_deck_operands.proofs.Names.{both, is_padded-padded_text}
+use Rattle.rtm_deck_operands.specs.inner.Reading.{value_if, number_in, flag_in, three_in, class_in, value_in}
+use Rattle.rtm_deck_operands.proofs.Names.{is_padded-padded_text}
 
 -- a value that passed a test
 pub value_if-Some : {A : Type 0} (test : A → Bool) (x y : A) → value_if test x ≡ Some y → (test y ≡ true) × (x ≡ y)

@@ -1,5 +1,5 @@
 -- Names as fields of eight bytes (this profile).
-use Rattle.std.specs.Prelude.{◌≡◌, ℕ, ◌-◌, Bool, true, false, ◌&&◌, cond, ◌==◌, List, ◌++◌, length, drop, take_while, replicate, IsTrue}
+use Rattle.std.specs.Prelude.{◌≡◌, ℕ, ◌-◌, Bool, true, false, ◌&&◌, cond, ◌==◌, if◌then◌else◌, List, ◌++◌, length, drop, take_while, replicate, Option, Some, None, IsTrue}
 use Rattle.std.specs.List.{list_all}
 use Rattle.rtm_cards.specs.Name.{is_name}
 
@@ -18,3 +18,7 @@ is_padded_name bytes = (length bytes == 8) && is_name (trimmed_text bytes) && li
 -- The text is a name of 1 to 8 characters, and the eight bytes are that name and blanks.
 abbrev pub SpellsName : List ℕ → List ℕ → Type 0
 SpellsName text bytes = IsTrue (is_name text) × (bytes ≡ padded_text text)
+
+-- the name that a text is, with its padding, if it is one
+abbrev pub name_in : List ℕ → Option (List ℕ)
+name_in text = if is_name text then Some (padded_text text) else None

@@ -53,8 +53,8 @@ pub record Stands (slot : Slot) (operands : List (List ℕ)) (value : Option Val
   pub spells : SpellsOperand slot operand spelled
   pub is : value ≡ Some spelled
 
--- The operands, in any order that their slots allow, spell one value for each slot: each slot is left out, or one of the
--- operands spells its value, and the others spell the values of the other slots. No operand is left over.
+-- The operands, in any order that their slots allow, spell one value for each slot: each slot is left out, or one of
+-- the operands spells its value, and the others spell the values of the other slots. No operand is left over.
 abbrev pub SpellsSlots : List Slot → List (List ℕ) → List (Option Value) → Type 0
 SpellsSlots [] operands [] = operands ≡ []
 SpellsSlots [] operands (value ∷ values) = ⊥

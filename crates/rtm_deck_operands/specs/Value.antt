@@ -112,8 +112,8 @@ abbrev pub class_value_text : Value → List ℕ
 class_value_text (values.Class class) = class_text class
 class_value_text _ = []
 
--- The text of a value on a card that is written: numbers and reasons without leading zeros, codes in their short text, names
--- without their padding. A value that isn't of that kind has no text.
+-- The text of a value on a card that is written: numbers and reasons without leading zeros, codes in their short
+-- text, names without their padding. A value that isn't of that kind has no text.
 abbrev pub value_text : Kind → Value → List ℕ
 value_text (kinds.Word word) value = trimmed_text word
 value_text (kinds.Number least most) value = number_text value

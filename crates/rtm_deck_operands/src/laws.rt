@@ -5,13 +5,14 @@ ghost use Rattle.std.specs.Prelude.{◌≡◌, ℕ, ◌∷◌, ◌≤◌, ◌↔
 ghost use Rattle.std.specs.List.{AllByRecursion, join_with_byte};
 ghost use Rattle.rtm_deck_operands.specs.declared.slot.Slot.{Slot};
 ghost use Rattle.rtm_deck_operands.specs.declared.value.Value.{Value};
-ghost use Rattle.rtm_deck_operands.specs.Reading.{read_slots};
+ghost use Rattle.rtm_deck_operands.specs.inner.Reading.{read_slots};
 ghost use Rattle.rtm_deck_operands.specs.Slot.{FitsSlots, IsOperandText, IsWellMade, SpellsSlots, blank, canon_operands, comma, field_of};
 
 /// Operands are read as some values exactly where they spell those values.
 pub fn reading_is_spelling()
     ensures { (slots : List Slot) (operands : List (List ℕ)) (values : List (Option Value)) →
-        IsWellMade slots → (read_slots slots operands ≡ Some values) ↔ SpellsSlots slots operands values }
+        IsWellMade slots → (read_slots slots operands ≡ Some values)
+        ↔ SpellsSlots slots operands values }
 {}
 
 /// Operands spell one list of values at most.
@@ -30,7 +31,8 @@ pub fn spelled_values_fit()
 /// What is written of values that fit spells them, and so is read as those values again.
 pub fn written_is_read()
     ensures spelled { (slots : List Slot) (values : List (Option Value)) →
-        IsWellMade slots → FitsSlots slots values → SpellsSlots slots (canon_operands slots values) values }
+        IsWellMade slots → FitsSlots slots values
+        → SpellsSlots slots (canon_operands slots values) values }
     ensures read { (slots : List Slot) (values : List (Option Value)) →
         IsWellMade slots → FitsSlots slots values →
         read_slots slots (canon_operands slots values) ≡ Some values }

@@ -1,8 +1,7 @@
 //! Names of programs, units and labels.
 
 ghost use Rattle.std.specs.Prelude.{◌≡◌, ◌≤◌, length, take};
-ghost use Rattle.rtm_deck_operands.specs.Name.{padded_text, trimmed_text};
-ghost use Rattle.rtm_deck_operands.specs.Reading.{name_in};
+ghost use Rattle.rtm_deck_operands.specs.Name.{padded_text, trimmed_text, name_in};
 
 use rtm_cards::is_name;
 use std::marker::Model;

@@ -2,7 +2,7 @@
 
 ghost use Rattle.std.specs.Prelude.{◌≡◌, ◌<◌, length, map, IfSome, IfNone};
 ghost use Rattle.rtm_cards.specs.Span.{IsWithin, text_of};
-ghost use Rattle.rtm_deck_operands.specs.Part.{span_of};
+ghost use Rattle.rtm_deck_operands.specs.inner.Part.{span_of};
 
 use crate::slot::MOST_SLOTS;
 use arrayvec::ArrayVec;

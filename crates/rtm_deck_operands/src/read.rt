@@ -4,9 +4,9 @@ ghost use Rattle.std.specs.Prelude.{◌≡◌, ◌≤◌, ◌<◌, ◌^◌, List
 ghost use Rattle.std.specs.List.{AllByRecursion, position_from};
 ghost use Rattle.rtm_cards.specs.Span.{IsWithin, text_of};
 ghost use Rattle.rtm_deck_operands.specs.declared.value.Value.{Value};
-ghost use Rattle.rtm_deck_operands.specs.Part.{AreWithin, part_texts};
+ghost use Rattle.rtm_deck_operands.specs.inner.Part.{AreWithin, part_texts};
 ghost use Rattle.rtm_deck_operands.specs.Slot.{SpellsSlots, FitsSlots, IsWellMade};
-ghost use Rattle.rtm_deck_operands.specs.Reading.{has_key, place_of, meaning_of, operand_in, take_operand, read_slots, Taken, taken_value, written_in};
+ghost use Rattle.rtm_deck_operands.specs.inner.Reading.{has_key, place_of, meaning_of, operand_in, take_operand, read_slots, Taken, taken_value, written_in};
 
 use crate::name::trimmed_text;
 use crate::part::{Part, parts_of};

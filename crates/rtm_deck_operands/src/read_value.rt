@@ -4,7 +4,7 @@ ghost use Rattle.std.specs.Prelude.{◌≡◌, ◌≤◌};
 ghost use Rattle.rtm_codes.specs.declared.code.Code.{Code};
 ghost use Rattle.rtm_codes.specs.Code.{same_code};
 ghost use Rattle.rtm_deck_operands.specs.Value.{yes_or_no, scope_text, is_return_code, is_abend_code};
-ghost use Rattle.rtm_deck_operands.specs.Reading.{number_in, flag_in, three_in, class_in, value_in};
+ghost use Rattle.rtm_deck_operands.specs.inner.Reading.{number_in, flag_in, three_in, class_in, value_in};
 
 use crate::name::{name_of, trimmed_text};
 use crate::slot::Kind;

@@ -11,8 +11,8 @@ use crate::write_value::push_value;
 use rtm_codes::NoMemory;
 use rtm_text::push_bytes;
 
-/// Appends the canonical operands of a card (this profile): a blank and the operands with commas between them, or nothing
-/// where all are left out.
+/// Appends the canonical operands of a card (this profile): a blank and the operands with commas between them, or
+/// nothing where all are left out.
 ///
 /// They stand in the order of the table. An operand whose value is what leaving it out means is left out. Numbers and
 /// reasons have no leading zeros, codes their short text. `values` has one value for each slot, and each fits. The only
@@ -38,7 +38,8 @@ fn push_separated(
 ) -> Result<(), NoMemory>
     requires { IsTrue (slots_fit slots.now values.now) }
     ensures { OnOk result
-        (out.new.items ≡ out.old.items ++ separated_operands separator (canon_operands slots.now values.now)) }
+        (out.new.items ≡ out.old.items
+        ++ separated_operands separator (canon_operands slots.now values.now)) }
 {
     let Some((slot, slots)) = slots.split_first() else {
         return Ok(());
@@ -59,7 +60,8 @@ fn push_operand(
 ) -> Result<u8, NoMemory>
     requires { IsTrue (slot_fits slot.now value) }
     ensures pushed { OnOk result
-        (out.new.items ≡ out.old.items ++ separated_operands separator (canon_operand slot.now value)) }
+        (out.new.items ≡ out.old.items
+        ++ separated_operands separator (canon_operand slot.now value)) }
     ensures next { IfOk result
         (λ next. next ≡ separator_after separator (canon_operand slot.now value)) }
 {
@@ -72,7 +74,8 @@ fn push_operand(
 fn push_given(out: &mut Vec<u8>, separator: u8, slot: &Slot, value: Value) -> Result<u8, NoMemory>
     requires { IsTrue (fits slot.now.kind value) }
     ensures pushed { OnOk result
-        (out.new.items ≡ out.old.items ++ separated_operands separator (canon_operand slot.now (Some value))) }
+        (out.new.items ≡ out.old.items
+        ++ separated_operands separator (canon_operand slot.now (Some value))) }
     ensures next { IfOk result
         (λ next. next ≡ separator_after separator (canon_operand slot.now (Some value))) }
 {

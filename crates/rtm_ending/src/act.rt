@@ -18,8 +18,8 @@ pub enum Act {
     Finish,
 }
 
-/// The next act of ending: of a unit whose subtasks haven't all ended, or not, with the manager and the holding that are
-/// next, where there are some. The address space has no subtasks.
+/// The next act of ending: of a unit whose subtasks haven't all ended, or not, with the manager and the holding that
+/// are next, where there are some. The address space has no subtasks.
 #[inline(always)]
 pub fn next_act(subtasks_left: bool, mgr: Option<Manager1>, hold: Option<Holding>) -> Act
     ensures { result ≡ next_act subtasks_left mgr hold }

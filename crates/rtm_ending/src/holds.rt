@@ -17,9 +17,9 @@ use std::marker::Model;
 
 /// What the units and the master hold, at most `MOST_HOLDINGS` each.
 ///
-/// A contract sees the number of units, and for each unit, in order, and for the master, which comes last, its holdings of
-/// each class, newest first. A holding's birth is the index of the entry that made it, and an owner is a unit's number, or
-/// for the master the number of units.
+/// A contract sees the number of units, and for each unit, in order, and for the master, which comes last, its
+/// holdings of each class, newest first. A holding's birth is the index of the entry that made it, and an owner is a
+/// unit's number, or for the master the number of units.
 #[derive(Drop)]
 pub struct Holds {
     units: u16,
@@ -111,7 +111,8 @@ impl Holds {
     /// The same for so many units.
     pub(crate) fn of_units(alloc: Global, units: u16) -> Result<Holds, NoMemory>
         ensures { IfOk result
-            (λ holds. holds ≡ record { units = units; owners = replicate (units + 1) no_holdings }) }
+            (λ holds. holds
+            ≡ record { units = units; owners = replicate (units + 1) no_holdings }) }
     {
         let owners = owners_with_room(alloc, units as usize + 1)?;
         Ok(Holds { units, owners })
@@ -154,8 +155,8 @@ impl Holds {
         }
     }
 
-    /// FREE: takes the unit's newest holding of that class and number away. `NotHeld` where it has none, and where there is
-    /// no such unit.
+    /// FREE: takes the unit's newest holding of that class and number away. `NotHeld` where it has none, and where
+    /// there is no such unit.
     pub fn free(&mut self, unit: u16, class: Res, id: u32) -> Result<Holding, NotHeld>
         ensures which { result ≡ ok_or (newest_equal unit class id self.old.owners) not_held }
         ensures holds { self.new
@@ -168,8 +169,8 @@ impl Holds {
         }
     }
 
-    /// The holding that is released next: of that owner, or with None of all, the first by class, then the newest. There is
-    /// none of an owner that isn't there.
+    /// The holding that is released next: of that owner, or with None of all, the first by class, then the newest.
+    /// There is none of an owner that isn't there.
     pub fn next_release(&self, owner: Option<u16>) -> Option<Holding>
         ensures { result ≡ next_release owner self.now.owners }
     {

@@ -16,8 +16,8 @@ use std::marker::Model;
 /// The resource managers of all tasks and of the address space (Authorized Assembler Services Guide, "Using resource
 /// managers"), at most `MOST_MANAGERS`.
 ///
-/// A contract sees them as one list, newest first. A manager's birth is the index of the entry that added it. In each call
-/// the task is a unit's number, and None means the address space.
+/// A contract sees them as one list, newest first. A manager's birth is the index of the entry that added it. In each
+/// call the task is a unit's number, and None means the address space.
 #[derive(Drop)]
 pub struct Managers {
     list: Vec<Manager1>,
@@ -146,7 +146,8 @@ impl Managers {
         self.list.len() == MOST_MANAGERS
     }
 
-    /// RESMGR ADD: one more manager, the newest. `Full` where as many are there as may be, of tasks and of the address space together.
+    /// RESMGR ADD: one more manager, the newest. `Full` where as many are there as may be, of tasks and of the
+    /// address space together.
     pub fn add(&mut self, mgr: Manager1) -> Result<(), Full>
         ensures full { IsErr result ↔ (length self.old ≡ most_managers) }
         ensures ok { OnOk result (self.new ≡ mgr ∷ self.old) }

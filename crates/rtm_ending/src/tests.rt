@@ -54,7 +54,8 @@ fn births(holds: &Holds) -> [Option<u32>; 4] {
 fn releases_by_class_and_then_the_newest(rt: HostRuntime) -> Result<(), Fail> {
     let units = 1;
     let mut holds = Holds::of_units(rt.alloc(), units)?;
-    // What the step gives, and what the task (0), the master (1), an owner that isn't there, and all of them release next.
+    // What the step gives, and what the task (0), the master (1), an owner that isn't there, and all of them release
+    // next.
     let steps = [
         (
             HoldStep::Get(Res::Timr, 7, 0),

@@ -40,7 +40,8 @@ use Rattle.rtm_law_births.proofs.Beyond.{own, with_units}
 use Rattle.rtm_law_births.proofs.Living.{Moves, said_by, same_list, first_then, unmoved}
 use Rattle.rtm_law_births.proofs.Posts.{grows, other_posted, pending_of, posts, queued_by_rc, rc_of_queued, same_fate, same_late}
 
--- an entry's own change leaves the pending aborts of an entry that isn't a LAND or a BEGIN, and how units have begun to end
+-- an entry's own change leaves the pending aborts of an entry that isn't a LAND or a BEGIN, and how units have begun
+-- to end
 module _ (d : DeckView) (w : World) (n u : ℕ) where
   pub card_pending : (at : Place) (rc v : ℕ) → pending_of v (World.units (own d w n u (whats.Exec at rc))) ≡ pending_of v w.units
   card_pending at rc v = unit_same UnitOfWork.pending (own_change d n w.managers (whats.Exec at rc)) (λ unit. refl) u v w.units

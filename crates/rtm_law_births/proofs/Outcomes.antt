@@ -49,8 +49,8 @@ pub record IsJudged (d : DeckView) (c : Core) (kind : Kind) (verdict : Verdict) 
 abbrev pub IsStarted : Core → Kind → ℕ → Type 0
 IsStarted c kind born = (kind ≡ Mgr) ⊎ ((r : ErrorRecord) × IsSomeAnd (eligible_routine c r) (λ routine. (kind ≡ routine.kind) × (born ≡ routine.born)))
 
--- a card's return code is its outcome's; only a routine that failed is left while an error is open in its bracket; a unit's
--- end shows the fates of what it posts; the master alone purges
+-- a card's return code is its outcome's; only a routine that failed is left while an error is open in its bracket; a
+-- unit's end shows the fates of what it posts; the master alone purges
 abbrev pub IsOutcome : DeckView → World → ℕ → What → Type 0
 IsOutcome d w u (Exec at rc) = outcome (core_at u w) (surroundings_at d w u (op_at d at.prog at.op)) (op_at d at.prog at.op) ≡ Executed rc
 IsOutcome d w u (Leave kind reg verdict logrec dump) = (verdict ≡ Fail) ⊎ IsJudged d (core_at u w) kind verdict

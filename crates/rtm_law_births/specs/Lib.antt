@@ -11,3 +11,6 @@ pub mod Errors
 pub mod Brackets
 pub mod RequestBlocks
 pub mod Estaes
+pub use Rattle.rtm_deck_items.specs.View
+pub use Rattle.rtm_deck_items.specs.WellFormed
+pub use Rattle.rtm_model.specs.Legal

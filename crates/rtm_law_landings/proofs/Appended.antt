@@ -1,7 +1,7 @@
 -- Legal histories by one more entry at the end.
 use Rattle.std.proofs.Common.{◌≡◌, ℕ, zero, suc, ◌+◌, ◌<◌, ◌≤◌, Bool, true, false, ◌||◌, List, [], ◌∷◌, ◌++◌, length, take, Some, refl, sym, ap, subst, ◌∙◌, arith}
 use Rattle.std.proofs.lemmas.Bool.{or_right}
-use Rattle.std.proofs.lemmas.List.{length-take-le, take_all}
+use Rattle.std.proofs.lemmas.List.{length-take-le, take-take, take_all}
 use Rattle.std.specs.List.{list_any}
 use Rattle.std.specs.Prelude.{IsTrue, slice_get}
 use Rattle.rtm_deck_items.specs.View.{DeckView}
@@ -81,6 +81,14 @@ pub any_from : (p : Entry → Bool) (xs : List Entry) (i : ℕ) (e : Entry) → 
 any_from p [] i e at h = absurd cc
 any_from p (x ∷ xs) zero e at h = let same : x ≡ e = cc in let here : p x ≡ true = ap p same ∙ h in ap (λ (b : Bool). b || list_any p xs) here
 any_from p (x ∷ xs) (suc i) e at h = or_right (p x) (list_any p xs) (any_from p xs i e at h)
+
+-- any of a prefix, and of a longer one
+pub any_longer : (p : Entry → Bool) (history : List Entry) (k : ℕ) → list_any p (take k history) ≡ true → list_any p history ≡ true
+any_longer p history k h = let one = any_at p (take k history) h in any_from p history one.0 one.1 (at_longer history k one.0 one.1 one.2) one.3
+
+pub any_earlier : (p : Entry → Bool) (history : List Entry) (i j : ℕ) → i ≤ j → list_any p (take i history) ≡ true → list_any p (take j history) ≡ true
+any_earlier p history i j le h =
+    any_longer p (take j history) i (subst (λ (es : List Entry). list_any p es ≡ true) (sym (take-take i j history le)) h)
 
 pub any_same : (p q : Entry → Bool) (xs : List Entry) → ((i : ℕ) (e : Entry) → IsAt xs i e → p e ≡ q e) → list_any p xs ≡ list_any q xs
 any_same p q [] h = refl

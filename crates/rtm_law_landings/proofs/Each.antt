@@ -22,11 +22,11 @@ use Rattle.rtm_law_landings.proofs.Appended.{front_made, front_made_last}
 use Rattle.rtm_law_landings.proofs.Clups.{doomed_no_retry}
 use Rattle.rtm_law_landings.proofs.Doomed.{doomed_agree, interrupts_agree}
 use Rattle.rtm_law_landings.proofs.Fields.{land_lands, land_later, land_queued, land_shows}
-use Rattle.rtm_law_landings.proofs.Lives.{there}
+use Rattle.rtm_law_landings.proofs.Lives.{not_master}
 use Rattle.rtm_law_landings.proofs.Nexts.{IsInterruption, IsMasters, IsTimely, IsUndisturbed, IsUnits, is_landing, next_is, pending_in}
 
 -- an entry that is no arrival is its unit's next
-next_of : (d : DeckView) (w : World) (n u : ℕ) (what : What) → is_arrival what ≡ false → MayFollow d w n (record { unit = u; what = what }) what → next d w u ≡ Some what
+pub next_of : (d : DeckView) (w : World) (n u : ℕ) (what : What) → is_arrival what ≡ false → MayFollow d w n (record { unit = u; what = what }) what → next d w u ≡ Some what
 next_of d w n u (whats.Arrive cmd became) other may = absurd cc
 next_of d w n u _ other may = may
 
@@ -47,7 +47,7 @@ undisturbed c p what lives other (inl lands) = let clash : false ≡ true = sym 
 undisturbed c p what lives other (inr quiet) = quiet_by c p lives (interruptible c) refl (IsUndisturbed.none quiet)
 
 dead_master : (d : DeckView) (w : World) (n u : ℕ) → IsSound d n w → u ≡ master d → lives_in w u ≡ false
-dead_master d w n u s is = false_from_ne_true (lives_in w u) (λ lives. omega (arith, there w u lives, IsSound.lives_len s, is))
+dead_master d w n u s is = false_from_ne_true (lives_in w u) (λ lives. not_master d w n u s lives is)
 
 flag_itself : (a : Bool) → is_same_flag a a ≡ true
 flag_itself true = refl

@@ -3,8 +3,7 @@ use Rattle.std.proofs.Common.{◌≡◌, ℕ, ◌<◌, ◌≤◌, Bool, true, fa
 use Rattle.std.proofs.lemmas.Bool.{cases_lt, eqb-false, eqb-true}
 use Rattle.std.proofs.lemmas.List.{get_or-set_other, get_or-set_same, get_or_past}
 use Rattle.std.proofs.lemmas.List.Folds.{list_any-append}
-use Rattle.std.specs.Prelude.{IsTrue, if◌then◌else◌, is_some, map, slice_get, slice_set, ◌==◌}
-use Rattle.rtm_codes.specs.declared.code.Code.{Code}
+use Rattle.std.specs.Prelude.{IsTrue, if◌then◌else◌, map, slice_get, slice_set, ◌==◌}
 use Rattle.rtm_deck_items.specs.Reading.{job_step, op_at}
 use Rattle.rtm_deck_items.specs.View.{DeckView}
 use Rattle.rtm_deck_items.specs.WellFormed.{is_well_formed}
@@ -17,10 +16,10 @@ use Rattle.rtm_model.specs.declared.reg.Reg.{Reg}
 use Rattle.rtm_model.specs.inner.Applies.{CanExecute}
 use Rattle.rtm_model.specs.inner.Soundness.{IsSound}
 use Rattle.rtm_model.specs.AbortLaw.{attaches, is_subtask, says_attach}
-use Rattle.rtm_model.specs.Advance.{advance, beyond_card, memory_end_after, with_unit, world}
+use Rattle.rtm_model.specs.Advance.{advance, beyond_card, with_unit, world}
 use Rattle.rtm_model.specs.Legal.{Legal}
 use Rattle.rtm_model.specs.Tasks.{Dormant, HasEnded, Life, Lives, Tree, ended_life, has_ended, is_dormant, is_living, is_number, life_of, mother_of, with_birth, with_end}
-use Rattle.rtm_model.specs.World.{World, lives_in, related_task, start}
+use Rattle.rtm_model.specs.World.{World, lives_in, master, related_task, start}
 use Rattle.rtm_model.proofs.Start.{all_dormant, job_step_in, length-dormant}
 use Rattle.rtm_law_births.proofs.Beyond.{arrived_units, own, related_units, step_units}
 use Rattle.rtm_law_births.proofs.Cards.{NamesUnit, unit_named}
@@ -58,29 +57,10 @@ module _ (d : DeckView) (n u : ℕ) where
       ap (λ (k : World). Tree.lives k.tree) (step_units n (not (u == job_step d)) (job_step d) _ _) ∙ ap (λ (k : World). Tree.lives k.tree) (related_units n (related_task d u) _ _)
   lives_are w _ = refl
 
-  -- memory end goes on
-  memory_if : (w : World) (b : Bool) (unit : ℕ) (mother : Option ℕ) (estais : List Reg) → World.memory_end (if b then with_unit d n unit mother estais w else w) ≡ w.memory_end
+  -- a birth leaves memory end
+  pub memory_if : (w : World) (b : Bool) (unit : ℕ) (mother : Option ℕ) (estais : List Reg) → World.memory_end (if b then with_unit d n unit mother estais w else w) ≡ w.memory_end
   memory_if w true unit mother estais = refl
   memory_if w false unit mother estais = refl
-
-  card_memory : (w : World) (rc : ℕ) (op : Op) → is_some w.memory_end ≡ true → is_some (World.memory_end (beyond_card d n u rc op w)) ≡ true
-  card_memory w rc (ops.Attachx unit estai term) h = ap is_some (memory_if w (rc == 0) unit (Some u) _) ∙ h
-  card_memory w rc (ops.Schedule unit) h = ap is_some (memory_if w (rc == 0) unit None []) ∙ h
-  card_memory w rc (ops.Memterm code) h = refl
-  card_memory w rc _ h = h
-
-  done_memory : (b : Bool) (code : Code) (end : Option Code) → is_some end ≡ true → is_some (memory_end_after b code end) ≡ true
-  done_memory true code end h = refl
-  done_memory false code end h = h
-
-  pub memory_stays : (w : World) (what : What) → is_some w.memory_end ≡ true → is_some (World.memory_end (advance d w n (record { unit = u; what = what }))) ≡ true
-  memory_stays w (whats.Exec at rc) h = card_memory (own d w n u (whats.Exec at rc)) rc (op_at d at.prog at.op) h
-  memory_stays w (whats.Arrive cmd became) h = ap (λ (k : World). is_some k.memory_end) (arrived_units n u (slice_get d.commands cmd) (own d w n u (whats.Arrive cmd became))) ∙ h
-  memory_stays w (whats.Done code to_task to_step) h =
-      ap (λ (k : World). is_some k.memory_end) (step_units n (not (u == job_step d)) (job_step d) _ _)
-      ∙ ap (λ (k : World). is_some k.memory_end) (related_units n (related_task d u) _ _)
-      ∙ done_memory (u == job_step d) code w.memory_end h
-  memory_stays w _ h = h
 
 -- One life
 
@@ -139,6 +119,10 @@ there_or w u h (inr past) =
 
 pub there : (w : World) (u : ℕ) → lives_in w u ≡ true → u < length (Tree.lives w.tree)
 there w u h = there_or w u h (cases_lt u (length (Tree.lives w.tree)))
+
+-- so it isn't the master
+pub not_master : (d : DeckView) (w : World) (n u : ℕ) → IsSound d n w → lives_in w u ≡ true → u ≡ master d → ⊥
+not_master d w n u sound lives is = omega (arith, there w u lives, IsSound.lives_len sound, is)
 
 -- Who has attached whom, and who has ended
 

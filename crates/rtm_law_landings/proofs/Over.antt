@@ -1,5 +1,5 @@
 -- After a unit's BEGIN or PURGE no abort is pending for it.
-use Rattle.std.proofs.Common.{◌≡◌, ℕ, ◌<◌, ◌≤◌, Bool, true, false, ◌||◌, List, [], ◌∷◌, ◌++◌, length, take, Option, Some, None, refl, sym, subst, arith, inl, inr, ◌⊎◌, ◌∙◌}
+use Rattle.std.proofs.Common.{◌≡◌, ℕ, ◌<◌, ◌≤◌, true, false, List, [], ◌∷◌, ◌++◌, length, take, Option, Some, None, refl, sym, subst, arith, inl, inr, ◌⊎◌, ◌∙◌}
 use Rattle.std.proofs.lemmas.Bool.{and_left, and_right, cases_lt, eqb-true}
 use Rattle.std.proofs.lemmas.List.{length-append}
 use Rattle.std.specs.Prelude.{IsTrue, is_none, is_some}
@@ -20,6 +20,7 @@ use Rattle.rtm_law_births.proofs.Living.{IsMade}
 use Rattle.rtm_law_births.proofs.Sound.{IsSoundHistory, sound_history}
 use Rattle.rtm_law_sound.proofs.Histories.{prefix_legal, world-append}
 use Rattle.rtm_law_landings.proofs.Appended.{any_from, at_end, at_shorter, below, holds_of, one_at, same_below}
+use Rattle.rtm_law_landings.proofs.Booleans.{either_of}
 use Rattle.rtm_law_landings.proofs.Changes.{begun_agree}
 use Rattle.rtm_law_landings.proofs.Lives.{ended_dead, ended_next, purged_ended}
 
@@ -51,10 +52,6 @@ gone_of d h deck legal = holds_of d deck (AreGone d) (λ i u e at is. absurd cc)
 not_none : (o : Option Beginning) → is_some o ≡ true → is_none o ≡ false
 not_none None h = absurd cc
 not_none (Some begun) h = refl
-
-either_of : (a b : Bool) → (a || b) ≡ true → (a ≡ true) ⊎ (b ≡ true)
-either_of true b h = inl refl
-either_of false b h = inr h
 
 module _ (d : DeckView) (h : List Entry) (deck : IsTrue (is_well_formed d)) (legal : Legal d h) (i j u : ℕ) (e : Entry) (at : IsAt h i e) (less : i < j) where
   fallen : (is_begin_of u e.unit e.what ≡ true) ⊎ (purges u e.what ≡ true) → stands (world d (take j h)) u ≡ false

@@ -1,4 +1,5 @@
-//! The law of aborts that come from outside: where and when each one lands.
+//! Aborts of legal histories: each lands at most once, where its unit may be interrupted, and no retry follows one
+//! that forbids it.
 #![tactic(auto)]
 
 pub mod laws;

@@ -27,15 +27,20 @@ pub fn legal_histories_are_sound()
 /// What a unit makes next after a legal history can be applied: what it names is there, and there is room for what it
 /// makes. So can the arrival of a command.
 pub fn whatever_may_follow_can_be_applied()
-    ensures next { (d : DeckView) (history : List Entry) (u : ℕ) (what : What) → IsTrue (is_well_formed d)
-        → Legal d history → next d (world d history) u ≡ Some what → CanApply d (world d history) (entry_of u what) }
-    ensures arrival { (d : DeckView) (history : List Entry) (cmd : ℕ) (e : Entry) → IsTrue (is_well_formed d)
-        → Legal d history → arrival d (world d history) (length history) cmd ≡ Some e → CanApply d (world d history) e }
+    ensures next { (d : DeckView) (history : List Entry) (u : ℕ) (what : What)
+        → IsTrue (is_well_formed d)
+        → Legal d history → next d (world d history) u ≡ Some what
+        → CanApply d (world d history) (entry_of u what) }
+    ensures arrival { (d : DeckView) (history : List Entry) (cmd : ℕ) (e : Entry)
+        → IsTrue (is_well_formed d)
+        → Legal d history → arrival d (world d history) (length history) cmd ≡ Some e
+        → CanApply d (world d history) e }
 {}
 
 /// Each entry of a legal history could be applied where it stands.
 pub fn each_entry_was_applied()
-    ensures { (d : DeckView) (history : List Entry) (i : ℕ) (e : Entry) → IsTrue (is_well_formed d) → Legal d history
+    ensures { (d : DeckView) (history : List Entry) (i : ℕ) (e : Entry) → IsTrue (is_well_formed d)
+        → Legal d history
         → IsAt history i e → CanApply d (before d history i) e }
 {}
 
@@ -47,7 +52,8 @@ pub fn prefixes_are_legal()
 
 /// An entry that may follow a legal history makes another legal one of it, below the limit.
 pub fn one_more_entry_is_legal()
-    ensures { (d : DeckView) (history : List Entry) (e : Entry) → Legal d history → length history < d.limit
+    ensures { (d : DeckView) (history : List Entry) (e : Entry) → Legal d history
+        → length history < d.limit
         → MayFollow d (world d history) (length history) e e.what → Legal d (history ++ e ∷ []) }
 {}
 

@@ -1,5 +1,5 @@
--- What may follow is made by a unit that lives, or by the master; and the master adds no resource manager and attaches no
--- task, for it runs no card but in a manager's bracket.
+-- What may follow is made by a unit that lives, or by the master; and the master adds no resource manager and
+-- attaches no task, for it runs no card but in a manager's bracket.
 use Rattle.std.proofs.Common.{◌≡◌, ℕ, zero, suc, ◌+◌, ◌-◌, ◌<◌, ◌≤◌, Bool, true, false, cond, not, List, [], ◌∷◌, length, Option, Some, None, inl, inr, refl, subst, arith, eqb-true}
 use Rattle.std.proofs.lemmas.Bool.{and_parts, cases_lt, eqb-false, or_right}
 use Rattle.std.specs.Prelude.{IfSome, IsTrue, is_none, is_some, position, ◌==◌}

@@ -1,8 +1,8 @@
 -- Elements of two lists that are read by number, after one of each was written.
 use Rattle.std.proofs.Common.{◌≡◌, ℕ, zero, suc, ◌<◌, List, [], ◌∷◌, length, get_or, set, refl, sym, ap, subst, arith}
 
--- what holds of the two elements that are read, and of what is written where those are the ones, holds after the writing
--- at a number that both have
+-- what holds of the two elements that are read, and of what is written where those are the ones, holds after the
+-- writing at a number that both have
 pub both_set : {X Y : Type 0} (P : X → Y → Type 0) (d : X) (e : Y) (xs : List X) (ys : List Y) (u v : ℕ) (x : X) (y : Y) → u < length xs → u < length ys → P (get_or xs v d) (get_or ys v e) → (v ≡ u → P x y) → P (get_or (set xs u x) v d) (get_or (set ys u y) v e)
 both_set P d e [] ys u v x y lt le h here = absurd (omega arith)
 both_set P d e (a ∷ xs) [] u v x y lt le h here = absurd (omega arith)

@@ -1,9 +1,9 @@
--- A round of turns finds who has an entry; where it finds nothing, nobody goes on. What a turn makes may follow, and where it
--- makes nothing the history has an end.
+-- A round of turns finds who has an entry; where it finds nothing, nobody goes on. What a turn makes may follow, and
+-- where it makes nothing the history has an end.
 use Rattle.std.proofs.Common.{◌≡◌, ℕ, zero, suc, ◌+◌, ◌<◌, ◌≤◌, Bool, true, false, length, Option, Some, None, refl, ap, subst, arith, eqb}
-use Rattle.std.specs.Prelude.{IfSome, if◌then◌else◌, is_none, is_some, nat_le, not, ◌&&◌, ◌==◌, ◌||◌}
+use Rattle.std.specs.Prelude.{IfSome, if◌then◌else◌, is_none, is_some, nat_le, not, ◌&&◌, ◌==◌}
 use Rattle.std.specs.Option.{option_map, option_or}
-use Rattle.std.proofs.lemmas.Bool.{eqb-false, eqb-true, leb-false, leb-true}
+use Rattle.std.proofs.lemmas.Bool.{eqb-false, eqb-true, leb-false, leb-true, or_from}
 use Rattle.rtm_deck_items.specs.View.{DeckView}
 use Rattle.rtm_model.specs.declared.entry.End.{End}
 use Rattle.rtm_model.specs.declared.entry.End.TheVariants as ends
@@ -15,7 +15,7 @@ use Rattle.rtm_model.specs.Legal.{MayFollow, end_in, is_stalled}
 use Rattle.rtm_model.specs.NextEntry.{next}
 use Rattle.rtm_model.specs.Turns.{after, entry_of, seq_step, turn, turn_after}
 use Rattle.rtm_model.specs.World.{World}
-use Rattle.rtm_law_turns.proofs.Below.{some_below}
+use Rattle.rtm_model.proofs.GoingOn.{goes_on_by}
 use Rattle.rtm_law_turns.proofs.Firsts.{either, first_follows, first_stays}
 use Rattle.rtm_law_turns.proofs.Following.{next_follows}
 
@@ -60,10 +60,6 @@ plus_one d u e = ap (λ (b : Bool). if b then 0 else u + 1) e
 to_start : (d : DeckView) (u : ℕ) → (u == length d.units) ≡ true → after d u ≡ 0
 to_start d u e = ap (λ (b : Bool). if b then 0 else u + 1) e
 
-neither : (a b : Bool) → a ≡ false → b ≡ false → (a || b) ≡ false
-neither true b e f = absurd cc
-neither false b e f = f
-
 not_last : (u v n : ℕ) (same : Bool) → (u == n) ≡ same → u ≤ v → v ≤ n → (u ≡ v → ⊥) → (u == n) ≡ false
 not_last u v n true s a b ne = absurd (ne (omega (arith, eqb-true u n s, a, b)))
 not_last u v n false s a b ne = s
@@ -103,13 +99,13 @@ none_of_round d w u v a b e = none_of_round_if d w u v (nat_le u v) refl a b e
 none_below : (d : DeckView) (w : World) (k : ℕ) → ((v : ℕ) → v < k → next d w v ≡ None) → goes_on_below d w k ≡ false
 none_below d w zero h = refl
 none_below d w (suc k) h =
-    neither (goes_on_below d w k) (is_some (next d w k)) (none_below d w k (λ v lt. h v (omega (arith, lt)))) (ap (λ (o : Option What). is_some o) (h k (omega arith)))
+    or_from (goes_on_below d w k) (is_some (next d w k)) (none_below d w k (λ v lt. h v (omega (arith, lt)))) (ap (λ (o : Option What). is_some o) (h k (omega arith)))
 
 quiet_by : (d : DeckView) (w : World) (u : ℕ) (o : Option Entry) → turn d w u (suc (length d.units)) ≡ o → u ≤ length d.units → not (goes_on d w) ≡ is_none o
 quiet_by d w u None t h = ap not (none_below d w (suc (length d.units)) (λ v lt. none_of_round d w u v h (omega (arith, lt)) t))
 quiet_by d w u (Some e) t h =
     let found : IsFound d w e = subst (λ (o : Option Entry). IfSome o (IsFound d w)) t (found_in d w u (suc (length d.units)) h) in
-    ap not (some_below d w e.unit (suc (length d.units)) (omega (arith, found.unit_in)) (ap (λ (o : Option What). is_some o) found.next_is))
+    ap not (goes_on_by d w e.unit found.unit_in (ap (λ (o : Option What). is_some o) found.next_is))
 
 -- nobody goes on exactly where a round finds nothing
 pub quiet_is : (d : DeckView) (w : World) (u : ℕ) → u ≤ length d.units → not (goes_on d w) ≡ is_none (turn d w u (suc (length d.units)))

@@ -1,9 +1,11 @@
 pub mod Backwards
 pub mod Cards
 pub mod Codes
+pub mod GoingOn
 pub mod Landing
 pub mod Levels
 pub mod Lists
+pub mod Newest
 pub mod SetrpCards
 pub mod Start
 pub mod Units

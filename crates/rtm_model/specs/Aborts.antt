@@ -56,8 +56,8 @@ abbrev pub HasDistinctClasses : List Abort → Type 0
 HasDistinctClasses [] = Unit {0}
 HasDistinctClasses (abort ∷ later) = (has_class abort.class later ≡ false) × HasDistinctClasses later
 
--- An abort may land in a unit that has not begun to end where no FRR of it lives, no bracket of it shields it (an FRR's, one
--- of a routine with CANCEL=NO, a manager's), no abort without retry has landed in it, and no error is open in its innermost
--- bracket (the points of interruption are this profile's)
+-- An abort may land in a unit that has not begun to end where no FRR of it lives, no bracket of it shields it (an
+-- FRR's, one of a routine with CANCEL=NO, a manager's), no abort without retry has landed in it, and no error is open
+-- in its innermost bracket (the points of interruption are this profile's)
 abbrev pub is_interruptible : Bool → Bool → Bool → Bool → Bool
 is_interruptible frr_lives shielded doomed error_open = not frr_lives && not shielded && not doomed && not error_open

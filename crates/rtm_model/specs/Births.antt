@@ -1,13 +1,13 @@
 -- What entries make: request blocks, recovery routines, and managers as routines (this profile, unless a line says
 -- otherwise).
-use Rattle.std.specs.Prelude.{Bool, Option, false, true, ℕ, ◌+◌, if◌then◌else◌}
+use Rattle.std.specs.Prelude.{Bool, Option, false, true, ℕ, ◌+◌}
 use Rattle.std.specs.Option.{option_map}
 use Rattle.rtm_model.specs.declared.holding.Manager1.{Manager1}
 use Rattle.rtm_model.specs.declared.reg.Kind.TheVariants.{Estae, Estai, Frr, Mgr}
 use Rattle.rtm_model.specs.declared.reg.Reg.{Reg}
 use Rattle.rtm_model.specs.Blocks.{newest_birth}
 use Rattle.rtm_model.specs.Levels.{depth_in}
-use Rattle.rtm_model.specs.World.{Core, start}
+use Rattle.rtm_model.specs.World.{Core}
 
 -- The births that cards make
 
@@ -41,8 +41,8 @@ new_estae n c prog term cancel xctl = record {
   xctl = xctl;
 }
 
--- the ESTAI routine that ATTACHX names, if it names one (Assembler Services Reference, ATTACHX; that it has a TERM option of
--- its own, and CANCEL=YES always, is this profile's)
+-- the ESTAI routine that ATTACHX names, if it names one (Assembler Services Reference, ATTACHX; that it has a TERM
+-- option of its own, and CANCEL=YES always, is this profile's)
 abbrev pub new_estai : ℕ → Bool → Option ℕ → Option Reg
 new_estai n term prog = option_map (λ prog. record {
   kind = Estai;

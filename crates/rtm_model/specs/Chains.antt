@@ -21,8 +21,8 @@ is_of_depth depth reg = reg.depth == depth
 abbrev pub is_of_owner : ℕ → Reg → Bool
 is_of_owner owner reg = reg.owner == owner
 
--- a TERM-only record admits routines with TERM=YES alone (the option: Assembler Services Reference, ESTAEX; what it admits
--- here is this profile's)
+-- a TERM-only record admits routines with TERM=YES alone (the option: Assembler Services Reference, ESTAEX; what it
+-- admits here is this profile's)
 abbrev pub is_admitted : Bool → Reg → Bool
 is_admitted term_only reg = not term_only || reg.term
 

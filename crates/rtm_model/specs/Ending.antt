@@ -1,5 +1,5 @@
--- Holdings and resource managers, and which comes next when a unit or the address space ends (this profile; what a resource
--- manager is for: Authorized Assembler Services Guide, "Using resource managers").
+-- Holdings and resource managers, and which comes next when a unit or the address space ends (this profile; what a
+-- resource manager is for: Authorized Assembler Services Guide, "Using resource managers").
 use Rattle.std.specs.Prelude.{ℕ, ◌+◌, ◌<◌, Bool, true, false, not, ◌&&◌, ◌==◌, nat_lt, if◌then◌else◌, List, [], ◌∷◌, length, map, filter, find, fold, slice_get, slice_index_or, slice_set, Option, Some, None}
 use Rattle.std.specs.Option.{option_or}
 use Rattle.std.specs.List.{AllByRecursion}
@@ -82,8 +82,8 @@ newer_holding (Some a) (Some b) = if nat_lt a.born b.born then Some b else Some 
 abbrev pub newest_of_all : Res → List Holdings → Option Holding
 newest_of_all class owners = fold newer_holding None (map (newest_held class) owners)
 
--- the holding that is released next when the owner of that number ends, or, with no number, when the address space ends: the
--- first by class, then the newest (this profile)
+-- the holding that is released next when the owner of that number ends, or, with no number, when the address space
+-- ends: the first by class, then the newest (this profile)
 abbrev pub next_release : Option ℕ → List Holdings → Option Holding
 next_release (Some owner) owners = first_by_class (λ class. newest_held class (holdings_of owner owners))
 next_release None owners = first_by_class (λ class. newest_of_all class owners)
@@ -101,8 +101,8 @@ owner_after_release born held = record {
   timr = without_holding born held.timr;
 }
 
--- what a release leaves: the holding that was born at that entry is gone, whoever had it. (The machine says the same step by
--- owner, class and number: after_free.)
+-- what a release leaves: the holding that was born at that entry is gone, whoever had it. (The machine says the same
+-- step by owner, class and number: after_free.)
 abbrev pub after_release : ℕ → List Holdings → List Holdings
 after_release born owners = map (owner_after_release born) owners
 

@@ -97,8 +97,9 @@ recovers ls = is_recovery (current ls)
 abbrev pub record_in : List Bracket → Option ErrorRecord
 record_in ls = if recovers ls then error_of (enclosing_bracket ls) else None
 
--- no abort interrupts a routine of that kind: an FRR, a resource manager, and one with CANCEL=NO (that option: Assembler
--- Services Reference, ESTAEX; the rest is this profile's). An ESTAI routine never shields: it has CANCEL=YES always.
+-- no abort interrupts a routine of that kind: an FRR, a resource manager, and one with CANCEL=NO (that option:
+-- Assembler Services Reference, ESTAEX; the rest is this profile's). An ESTAI routine never shields: it has
+-- CANCEL=YES always.
 abbrev pub shields : Option Reg → Bool
 shields None = false
 shields (Some reg) = is_frr reg.kind || is_manager reg.kind || not reg.cancel
@@ -125,15 +126,15 @@ abbrev pub first_eligible : ℕ → Bool → List Reg → List Reg → List Reg 
 first_eligible depth term_only frrs estaes estais =
     value_or (next_frr depth term_only frrs) (value_or (next_estae depth term_only estaes) (next_estai_at depth term_only estais))
 
--- What an open error leads to: `enter` of the first eligible routine; where there is none, `fail` of the routine in whose
--- bracket the error is open, or in the outermost bracket `begin`, the begin of the unit's end.
+-- What an open error leads to: `enter` of the first eligible routine; where there is none, `fail` of the routine in
+-- whose bracket the error is open, or in the outermost bracket `begin`, the begin of the unit's end.
 abbrev pub choice_of : {A : Type 0} → (Reg → A) → (Reg → A) → A → Option Reg → Option Reg → A
 choice_of enter fail begin (Some reg) routine = enter reg
 choice_of enter fail begin None (Some own) = fail own
 choice_of enter fail begin None None = begin
 
--- The verdict at the end of the routine in the newest bracket: by its record, where the request block of a retry stands in
--- that program; Over where it has none, as a resource manager.
+-- The verdict at the end of the routine in the newest bracket: by its record, where the request block of a retry
+-- stands in that program; Over where it has none, as a resource manager.
 abbrev pub verdict_of_routine : DeckView → ℕ → Option Reg → Option ErrorRecord → Verdict
 verdict_of_routine d prog (Some reg) (Some r) = verdict d reg.kind prog r
 verdict_of_routine d prog _ _ = Over

@@ -6,6 +6,11 @@ pub use Rattle.rtm_cards.specs.Limits
 abbrev pub most_estaes : ℕ
 most_estaes = 64
 
+-- ESTAI routines of a task: its own, and one for each of its ancestors but the job step task, of as many units as a deck
+-- has at most
+abbrev pub most_estais : ℕ
+most_estais = 63
+
 -- FRRs of a unit that live at one time
 abbrev pub most_frrs : ℕ
 most_frrs = 16

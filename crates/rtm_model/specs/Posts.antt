@@ -1,5 +1,5 @@
--- Aborts that entries post to units (codes: MVS System Codes; every use of 13E and 33E, retry, TERM-only and merging are
--- this profile's).
+-- Aborts that entries post to units (codes: MVS System Codes; every use of 13E and 33E, retry, TERM-only and merging
+-- are this profile's).
 use Rattle.std.specs.Prelude.{Bool, List, None, Option, Some, [], false, is_some, not, true, ℕ, ◌&&◌, ◌∷◌, if◌then◌else◌}
 use Rattle.rtm_codes.specs.declared.code.Code.{Code}
 use Rattle.rtm_codes.specs.declared.code.Code.TheVariants.{Sys}

@@ -94,7 +94,8 @@ abbrev pub inner_failed : ErrorRecord → ErrorRecord → ErrorRecord
 inner_failed inner outer =
     if inner.flags.clup && not outer.flags.clup then after_takeover inner (after_failure outer) else after_failure outer
 
--- where the error would be retried: RC=4 asks for it, nothing forbids it, and the label stands in the program of the request block
+-- where the error would be retried: RC=4 asks for it, nothing forbids it, and the label stands in the program of the
+-- request block
 abbrev pub retry_place : DeckView → ℕ → ErrorRecord → Option Place
 retry_place d prog r =
     if (r.rc == 4) && not r.flags.clup
@@ -105,8 +106,8 @@ abbrev pub is_estai : Kind → Bool
 is_estai Estai = true
 is_estai _ = false
 
--- what a routine's end means: a retry where there is a place for it, else by the return code that SETRP set; 16 of another
--- kind than an ESTAI routine is bad (this profile)
+-- what a routine's end means: a retry where there is a place for it, else by the return code that SETRP set; 16 of
+-- another kind than an ESTAI routine is bad (this profile)
 abbrev pub verdict_by : Kind → ℕ → Option Place → Verdict
 verdict_by kind rc (Some place) = Retry place
 verdict_by kind rc None = if (rc == 16) && is_estai kind then Stop else if rc == 0 then Perc else Bad

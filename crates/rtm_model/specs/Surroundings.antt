@@ -117,8 +117,8 @@ surroundings_at d w u op = record {
   to_step = step_fate d w u;
 }
 
--- the card at which a unit stands; where it has no request block the first card of the first program, which no entry asks
--- for
+-- the card at which a unit stands; where it has no request block the first card of the first program, which no entry
+-- asks for
 abbrev pub op_here : DeckView → Core → Op
 op_here d c = op_at d (Place.prog (place_in c.blocks)) (Place.op (place_in c.blocks))
 

@@ -82,7 +82,8 @@ lives_at_start units first = slice_set (map (λ unit. Dormant) units) first (Liv
 abbrev pub is_posted : ℕ → List ℕ → Bool
 is_posted event events = list_any (λ posted. event == posted) events
 
--- POST: the event is posted, and stays so (Assembler Services Reference, POST; that events stay posted is this profile's)
+-- POST: the event is posted, and stays so (Assembler Services Reference, POST; that events stay posted is this
+-- profile's)
 abbrev pub with_event : ℕ → List ℕ → List ℕ
 with_event event events = if is_posted event events then events else event ∷ events
 

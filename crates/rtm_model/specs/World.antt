@@ -81,7 +81,8 @@ at_birth born prog estais unit = record unit { core = born_core born prog estais
 abbrev pub master : DeckView → ℕ
 master d = length d.units
 
--- the related task of an SRB (Authorized Assembler Services Reference, SCHEDULE; that its card names it is this profile's)
+-- the related task of an SRB (Authorized Assembler Services Reference, SCHEDULE; that its card names it is this
+-- profile's)
 abbrev pub related_task : DeckView → ℕ → Option ℕ
 related_task d u = option_and_then (λ unit. unit.related) (slice_get d.units u)
 

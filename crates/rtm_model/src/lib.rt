@@ -19,7 +19,8 @@ pub use entry::{Class, End, Entry, Fate, Verdict, What};
 pub use error_record::{ErrorRecord, RecordFlags};
 pub use holding::{Holding, Manager1};
 pub use limits::{
-    DEEPEST, MOST_BLOCKS, MOST_BRACKETS, MOST_ESTAES, MOST_FRRS, MOST_HOLDINGS, MOST_MANAGERS,
+    DEEPEST, MOST_BLOCKS, MOST_BRACKETS, MOST_ESTAES, MOST_ESTAIS, MOST_FRRS, MOST_HOLDINGS,
+    MOST_MANAGERS,
 };
 pub use mark::Mark;
 pub use outcome::Outcome;

@@ -3,6 +3,10 @@
 /// How many ESTAE routines of a unit live at one time, at most.
 pub const MOST_ESTAES: usize = 64;
 
+/// How many ESTAI routines a task has, at most: its own, and one for each of its ancestors but the job step task, of
+/// as many units as a deck has at most.
+pub const MOST_ESTAIS: usize = 63;
+
 /// How many FRRs of a unit live at one time, at most.
 pub const MOST_FRRS: usize = 16;
 

@@ -10,8 +10,8 @@ pub enum Kind {
 }
 
 /// A recovery routine that is registered: born at the entry of that index, by the request block `owner`, in the
-/// bracket of that depth (0 for the outermost, at most 15), with its program and its options. Of an ESTAI routine and of a
-/// manager owner and depth are 0 and say nothing.
+/// bracket of that depth (0 for the outermost, at most 15), with its program and its options. Of an ESTAI routine and
+/// of a manager owner and depth are 0 and say nothing.
 #[derive(Clone, Copy, Debug, PartialEq, Eq)]
 pub struct Reg {
     pub kind: Kind,

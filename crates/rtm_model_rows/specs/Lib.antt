@@ -36,3 +36,16 @@ pub mod Ret15InAWholeRoutine
 pub mod DenseRecovery
 pub mod DenseAborts
 pub mod DenseLimits
+pub use Rattle.rtm_model.specs.AbortLaw
+pub use Rattle.rtm_model.specs.ChainLaw
+pub use Rattle.rtm_model.specs.Course
+pub use Rattle.rtm_model.specs.Eligible
+pub use Rattle.rtm_model.specs.Entries
+pub use Rattle.rtm_model.specs.Held
+pub use Rattle.rtm_model.specs.HoldLaw
+pub use Rattle.rtm_model.specs.Legal
+pub use Rattle.rtm_model.specs.Moments
+pub use Rattle.rtm_model.specs.Record
+pub use Rattle.rtm_model.specs.Records
+pub use Rattle.rtm_model.specs.Turns
+pub use Rattle.rtm_model.specs.World

@@ -79,8 +79,8 @@ setrp rc retaddr remrec compcod reason dump logrec fresdwa = record {
   fresdwa = fresdwa;
 }
 
--- Routines, each with its birth and its program: made by the first request block of a unit, in the outermost bracket, by
--- a card with CANCEL=YES alone
+-- Routines, each with its birth and its program: made by the first request block of a unit, in the outermost bracket,
+-- by a card with CANCEL=YES alone
 abbrev pub routine : Kind → ℕ → ℕ → Reg
 routine kind born prog = record {
   kind = kind;

@@ -67,7 +67,8 @@ pub fn left_under_another_name()
 
 /// After the first the oldest is left of the list.
 pub fn rest_of_the_list()
-    ensures { rest_of_list percolation_and_retry_row.deck (take 5 percolation_and_retry_row.history) 2 0
+    ensures { rest_of_list percolation_and_retry_row.deck
+        (take 5 percolation_and_retry_row.history) 2 0
         ≡ Some (routine Estae 0 1 ∷ []) }
 {}
 

@@ -1,5 +1,5 @@
-//! The law of chains on rows: the course of an error through a history, from the list of the routines that were eligible
-//! when it came. Where a history breaks the law there is none.
+//! The law of chains on rows: the course of an error through a history, from the list of the routines that were
+//! eligible when it came. Where a history breaks the law there is none.
 
 ghost use Rattle.std.specs.Prelude.{◌≡◌, ◌++◌, ◌∷◌, [], true, false, take, None, Some};
 ghost use Rattle.rtm_codes.specs.declared.code.Code.TheVariants.{Sys, User};
@@ -42,7 +42,8 @@ pub fn percolation_then_retry()
 /// The last error of a history that ends first still has its whole list.
 pub fn retry_not_yet_over()
     ensures { course_of retry_until_the_limit_row.deck retry_until_the_limit_row.history 9 0
-        ≡ Some (Goes (list_of retry_until_the_limit_row.deck retry_until_the_limit_row.history 9 0)) }
+        ≡ Some (Goes (list_of retry_until_the_limit_row.deck retry_until_the_limit_row.history 9
+        0)) }
 {}
 
 /// Sixteen FRRs percolate, and the unit begins to end.
@@ -73,7 +74,8 @@ pub fn purge_ends_an_error()
 
 /// The newest routine runs, and the oldest is left.
 pub fn routine_runs()
-    ensures { course_of percolation_and_retry_row.deck (take 5 percolation_and_retry_row.history) 2 0
+    ensures { course_of percolation_and_retry_row.deck
+        (take 5 percolation_and_retry_row.history) 2 0
         ≡ Some (Runs (routine Estae 1 2) (routine Estae 0 1 ∷ []) 0) }
 {}
 

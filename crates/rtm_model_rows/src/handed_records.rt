@@ -12,7 +12,8 @@ ghost use Rattle.rtm_model_rows.specs.FrrBesideABareEstae as frr_beside_a_bare_e
 /// The routine that percolates gets the record of the error, the next one the same with PERC.
 pub fn records_of_percolation_and_retry()
     ensures { records percolation_and_retry_row.deck percolation_and_retry_row.history
-        ≡ fresh (Sys 0x0C1) None no_flags ∷ after_percolation (fresh (Sys 0x0C1) None no_flags) ∷ [] }
+        ≡ fresh (Sys 0x0C1) None no_flags ∷ after_percolation (fresh (Sys 0x0C1) None no_flags)
+        ∷ [] }
 {}
 
 /// A resource manager gets no record.

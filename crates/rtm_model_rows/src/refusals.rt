@@ -67,28 +67,32 @@ pub fn end_inside_a_routine()
 
 /// A routine retries although a cancel has landed.
 pub fn retry_after_a_cancel()
-    ensures { IsRefused cancel_inside_a_routine_row.deck (take 14 cancel_inside_a_routine_row.history)
+    ensures { IsRefused cancel_inside_a_routine_row.deck
+        (take 14 cancel_inside_a_routine_row.history)
         (leave 0 Estae 0 (retry 0 4))
         (Some (leave 0 Estae 0 Bad)) }
 {}
 
 /// A routine is cancelled, and the record of the error around it stays as it was.
 pub fn record_as_it_was_after_a_cancel()
-    ensures { IsRefused cancel_inside_a_routine_row.deck (take 12 cancel_inside_a_routine_row.history)
+    ensures { IsRefused cancel_inside_a_routine_row.deck
+        (take 12 cancel_inside_a_routine_row.history)
         (enter 0 Estae 0 (full_mark (Sys 0x0C1) None false false true))
         (Some (enter 0 Estae 0 (full_mark (Sys 0x222) None true false true))) }
 {}
 
 /// A cancel lands while an FRR lives.
 pub fn landing_while_an_frr_lives()
-    ensures { IsRefused cancel_while_an_frr_lives_row.deck (take 3 cancel_while_an_frr_lives_row.history)
+    ensures { IsRefused cancel_while_an_frr_lives_row.deck
+        (take 3 cancel_while_an_frr_lives_row.history)
         (land 0 Cancel 1 (full_mark (Sys 0x222) None true false false))
         (Some (exec 0 0 2 0)) }
 {}
 
 /// A unit that a pending cancel may interrupt goes on.
 pub fn landing_put_off()
-    ensures { IsRefused cancel_while_an_frr_lives_row.deck (take 5 cancel_while_an_frr_lives_row.history)
+    ensures { IsRefused cancel_while_an_frr_lives_row.deck
+        (take 5 cancel_while_an_frr_lives_row.history)
         (begin 0 (Sys 0x000) false)
         (Some (land 0 Cancel 1 (full_mark (Sys 0x222) None true false false))) }
 {}
@@ -172,14 +176,16 @@ pub fn done_while_a_subtask_lives()
 
 /// A command arrives before its number of entries stands, while a unit can go on.
 pub fn arrival_too_early()
-    ensures { IsRefused cancel_while_an_frr_lives_row.deck (take 0 cancel_while_an_frr_lives_row.history)
+    ensures { IsRefused cancel_while_an_frr_lives_row.deck
+        (take 0 cancel_while_an_frr_lives_row.history)
         (arrive 0 0 Queued)
         (Some (exec 0 0 1 0)) }
 {}
 
 /// A later command of a task arrives before an earlier one.
 pub fn arrival_out_of_turn()
-    ensures { IsRefused cancel_while_an_frr_lives_row.deck (take 1 cancel_while_an_frr_lives_row.history)
+    ensures { IsRefused cancel_while_an_frr_lives_row.deck
+        (take 1 cancel_while_an_frr_lives_row.history)
         (arrive 0 1 Queued)
         (Some (exec 0 0 2 0)) }
 {}
@@ -200,7 +206,8 @@ pub fn bare_routine_in_a_whole_region()
 
 /// An FRR is entered without an SDWA.
 pub fn bare_frr()
-    ensures { IsRefused frr_beside_a_bare_estae_row.deck (take 3 frr_beside_a_bare_estae_row.history)
+    ensures { IsRefused frr_beside_a_bare_estae_row.deck
+        (take 3 frr_beside_a_bare_estae_row.history)
         (enter_bare 0 Frr 1 (mark (Sys 0x0C4)))
         (Some (enter 0 Frr 1 (mark (Sys 0x0C4)))) }
 {}
@@ -214,7 +221,8 @@ pub fn bare_manager()
 
 /// SETRP is executed in a routine that has no SDWA.
 pub fn setrp_without_an_sdwa()
-    ensures { IsRefused setrp_in_a_bare_routine_row.deck (take 3 setrp_in_a_bare_routine_row.history)
+    ensures { IsRefused setrp_in_a_bare_routine_row.deck
+        (take 3 setrp_in_a_bare_routine_row.history)
         (exec 0 1 1 0)
         (Some (error 0 1 1 (mark (Sys 0xEE7)))) }
 {}

@@ -63,7 +63,8 @@ pub fn routine_of_another_block()
     ensures legal { Legal routine_of_another_block_row.deck routine_of_another_block_row.history }
     ensures ends { end_of routine_of_another_block_row.deck routine_of_another_block_row.history
         ≡ Some Ended }
-    ensures in_turns { seq routine_of_another_block_row.deck ≡ routine_of_another_block_row.history }
+    ensures in_turns { seq routine_of_another_block_row.deck
+        ≡ routine_of_another_block_row.history }
 {}
 
 /// A retry runs under the request block that made the routine; the newer ones are gone.
@@ -287,7 +288,8 @@ pub fn ret15_in_a_whole_routine()
     ensures legal { Legal ret15_in_a_whole_routine_row.deck ret15_in_a_whole_routine_row.history }
     ensures ends { end_of ret15_in_a_whole_routine_row.deck ret15_in_a_whole_routine_row.history
         ≡ Some Ended }
-    ensures in_turns { seq ret15_in_a_whole_routine_row.deck ≡ ret15_in_a_whole_routine_row.history }
+    ensures in_turns { seq ret15_in_a_whole_routine_row.deck
+        ≡ ret15_in_a_whole_routine_row.history }
 {}
 
 /// Retries by an FRR, an ESTAE and an ESTAI routine, branches that depend on the record, and each abort that a task

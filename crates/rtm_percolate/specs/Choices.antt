@@ -13,9 +13,9 @@ abbrev pub choice_for : List Bracket → List Reg → List Reg → List Reg → 
 choice_for ls frrs estaes estais r =
     choice_of Enter FailRoutine (Begin r) (first_eligible (depth_in ls) r.flags.term_only frrs estaes estais) (current ls)
 
--- The eligible routines, in the order in which they get control: the FRRs of the error's bracket and its ESTAE routines,
--- each newest first, and in the outermost bracket the ESTAI routines. A TERM-only record admits those with TERM=YES
--- alone, and no FRR.
+-- The eligible routines, in the order in which they get control: the FRRs of the error's bracket and its ESTAE
+-- routines, each newest first, and in the outermost bracket the ESTAI routines. A TERM-only record admits those with
+-- TERM=YES alone, and no FRR.
 abbrev pub eligible_routines : ℕ → Bool → List Reg → List Reg → List Reg → List Reg
 eligible_routines depth term_only frrs estaes estais =
     (if term_only then [] else filter (is_of_depth depth) frrs)

@@ -5,8 +5,8 @@ use Rattle.rtm_model.specs.declared.entry.Verdict.TheVariants.{Over}
 use Rattle.rtm_model.specs.declared.reg.Reg.{Reg}
 use Rattle.rtm_model.specs.Levels.{Bracket, innermost_bracket, is_manager}
 
--- the outermost bracket has no routine; every other one has, and was entered for the error that is open in the enclosing
--- bracket or for a resource manager
+-- the outermost bracket has no routine; every other one has, and was entered for the error that is open in the
+-- enclosing bracket or for a resource manager
 abbrev pub IsWithin : Option Reg → Option Bracket → Type 0
 IsWithin None None = Unit {0}
 IsWithin None (Some outer) = ⊥

@@ -14,8 +14,8 @@ use rtm_model::{Kind, Reg, Verdict};
 use rtm_sdwa::Sdwa;
 use std::marker::Model;
 
-/// A bracket: the routine that runs in it, none in the outermost, whether that was entered without an SDWA, and the record
-/// of its open error.
+/// A bracket: the routine that runs in it, none in the outermost, whether that was entered without an SDWA, and the
+/// record of its open error.
 #[derive(Clone, Copy)]
 pub(crate) struct Bracket {
     pub(crate) routine: Option<Reg>,

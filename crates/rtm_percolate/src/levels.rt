@@ -21,9 +21,9 @@ use std::marker::Model;
 
 /// The brackets of a unit, at most `MOST_BRACKETS`, each with the routine that runs in it and its open error.
 ///
-/// A contract sees them as a list of brackets, newest first. The last is the outermost bracket, which is always there and
-/// has no routine. Every other bracket was entered for a recovery routine, and then the error that it was entered for is
-/// open in the enclosing one, or for a resource manager.
+/// A contract sees them as a list of brackets, newest first. The last is the outermost bracket, which is always there
+/// and has no routine. Every other bracket was entered for a recovery routine, and then the error that it was entered
+/// for is open in the enclosing one, or for a resource manager.
 #[derive(Drop)]
 pub struct Levels {
     list: Vec<Bracket>,
@@ -233,8 +233,8 @@ impl Levels {
         true
     }
 
-    /// RET15: stores the return code, and the label where it is given, in that record. False, and no change, exactly where
-    /// no recovery routine runs in the newest bracket.
+    /// RET15: stores the return code, and the label where it is given, in that record. False, and no change, exactly
+    /// where no recovery routine runs in the newest bracket.
     pub fn ret15(&mut self, rc: u8, label: Option<Name>) -> bool
         requires { IsTrue (is_return_code rc) }
         ensures which { result ≡ recovers self.old }
@@ -250,8 +250,8 @@ impl Levels {
         true
     }
 
-    /// The verdict with which the routine of the newest bracket would be left now: by its record, and Over exactly where no
-    /// recovery routine runs there. A retry's request block stands in the program `retry_prog` of the deck.
+    /// The verdict with which the routine of the newest bracket would be left now: by its record, and Over exactly
+    /// where no recovery routine runs there. A retry's request block stands in the program `retry_prog` of the deck.
     pub fn verdict(&self, retry_prog: u16, deck: &Deck) -> Verdict
         ensures value { result ≡ verdict_in deck.now retry_prog self.now }
         ensures over { is_over result ≡ not (recovers self.now) }

@@ -195,8 +195,8 @@ fn closes_by_verdict(rt: HostRuntime) -> Result<(), Fail> {
     Ok(())
 }
 
-// RET15 stores in the record of the routine that runs, in a bare one too; a routine's own error doesn't change what it was
-// entered with.
+// RET15 stores in the record of the routine that runs, in a bare one too; a routine's own error doesn't change what
+// it was entered with.
 #[test]
 fn stores_what_ret15_names(rt: HostRuntime) -> Result<(), Fail> {
     let mut levels = Levels::with_room(rt.alloc())?;

@@ -1,3 +1,9 @@
 pub mod Flags
 pub mod Sdwa
 pub mod Bytes
+pub use Rattle.rtm_codes.specs.Code
+pub use Rattle.rtm_deck_operands.specs.Name
+pub use Rattle.rtm_deck_operands.specs.Value
+pub use Rattle.rtm_model.specs.NextEntry
+pub use Rattle.rtm_model.specs.Record
+pub use Rattle.rtm_model.specs.SetrpCard

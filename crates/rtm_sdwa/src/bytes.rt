@@ -71,7 +71,8 @@ fn word_at(bytes: &[u8; SDWA_LEN], at: usize) -> u32
 
 // The number of the two bytes of the flags.
 fn flags_at(bytes: &[u8; SDWA_LEN]) -> u16
-    ensures { result ≡ from_be_bytes w16 (slice_index bytes.now 16 ∷ slice_index bytes.now 17 ∷ []) }
+    ensures { result
+        ≡ from_be_bytes w16 (slice_index bytes.now 16 ∷ slice_index bytes.now 17 ∷ []) }
 {
     u16::from_be_bytes([bytes[FLAGS_AT], bytes[FLAGS_AT + 1]])
 }

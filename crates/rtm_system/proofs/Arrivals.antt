@@ -2,7 +2,7 @@
 use Rattle.std.proofs.Common.{◌≡◌, ℕ, ◌<◌, Bool, true, false, List, length, Option, Some, None, refl, ap, ◌∙◌, arith}
 use Rattle.std.specs.Prelude.{if◌then◌else◌, is_none, is_some, nat_le, not, slice_get, ◌&&◌, ◌||◌}
 use Rattle.std.specs.Option.{option_map_or}
-use Rattle.std.proofs.lemmas.Bool.{leb-true}
+use Rattle.std.proofs.lemmas.Bool.{and_parts, leb-true}
 use Rattle.rtm_codes.specs.declared.code.Code.{Code}
 use Rattle.rtm_deck_items.specs.declared.deck.Command.{Command}
 use Rattle.rtm_deck_items.specs.View.{DeckView}
@@ -42,10 +42,6 @@ not_gone d w cmd e =
     let life = life_of (target_of d cmd) (Tree.lives w.tree) in
     not_gone_by (is_living life) (has_ended life) (is_some (Core.begun (core_at (target_of d cmd) w))) w.memory_end (living_not_ended life) e
 
-left_true : (a b : Bool) → (a && b) ≡ true → a ≡ true
-left_true true b e = refl
-left_true false b e = absurd cc
-
 due_if : (due : Bool) (posted : Fate) (target cmd : ℕ) (e : Entry) → arrival_of target cmd (if due then Some posted else None) ≡ Some e → due ≡ true
 due_if true posted target cmd e h = refl
 due_if false posted target cmd e h = absurd cc
@@ -57,7 +53,7 @@ cancellable_by d w n cmd (Some command) e s h =
     let quiet = not (goes_on d w) in
     let target : target_of d cmd ≡ command.target = ap (λ (o : Option Command). option_map_or (λ (c : Command). c.target) o 0) s in
     let due = due_if (is_due d w n quiet cmd command) (fate_in w command.target classes.Cancel) (target_of d cmd) cmd e h in
-    ap (is_cancellable w) target ∙ left_true (is_cancellable w command.target) (is_in_turn d w command.target cmd) (left_true (is_cancellable w command.target && is_in_turn d w command.target cmd) (nat_le command.at n || quiet) due)
+    ap (is_cancellable w) target ∙ (and_parts (is_cancellable w command.target) (is_in_turn d w command.target cmd) (and_parts (is_cancellable w command.target && is_in_turn d w command.target cmd) (nat_le command.at n || quiet) due).0).0
 
 answer_by : (gone full : Bool) (o : Option Entry) (e : Entry) → gone ≡ false → full ≡ false → o ≡ Some e → (if gone then arrivals.Gone else if full then arrivals.NotYet else arrives o) ≡ arrivals.Made e
 answer_by true full o e g f h = absurd cc

@@ -1,5 +1,5 @@
 -- Where a unit has a next entry, the run goes on.
-use Rattle.std.proofs.Common.{◌≡◌, ℕ, suc, ◌≤◌, Bool, true, false, length, Option, Some, None, refl, sym, ap, ◌∙◌, arith}
+use Rattle.std.proofs.Common.{◌≡◌, ℕ, ◌≤◌, Bool, true, false, length, Option, Some, None, refl, sym, ap, ◌∙◌}
 use Rattle.std.specs.Prelude.{if◌then◌else◌, is_some, nat_le, not, ◌&&◌}
 use Rattle.rtm_deck_items.specs.View.{DeckView}
 use Rattle.rtm_model.specs.declared.entry.End.TheVariants as ends
@@ -8,14 +8,11 @@ use Rattle.rtm_model.specs.Arrivals.{goes_on}
 use Rattle.rtm_model.specs.Legal.{end_in, is_stalled}
 use Rattle.rtm_model.specs.NextEntry.{next}
 use Rattle.rtm_model.specs.World.{World}
-use Rattle.rtm_system_world.proofs.Turns.{some_below}
+use Rattle.rtm_model.proofs.GoingOn.{goes_on_by}
 use Rattle.rtm_model.specs.Turns.{entry_of}
 use Rattle.rtm_system.specs.Steps.{step_answer_by, step_answer_in, stops}
 use Rattle.rtm_system.specs.declared.stepped.Stepped.{Stepped}
 use Rattle.rtm_system.specs.declared.stepped.Stepped.TheVariants.{AtLimit, IsOver, Made}
-
-pub goes_on_by : (d : DeckView) (w : World) (u : ℕ) → u ≤ length d.units → is_some (next d w u) ≡ true → goes_on d w ≡ true
-goes_on_by d w u h e = some_below d w u (suc (length d.units)) (omega arith) e
 
 limit_stops : (b : Bool) → stops (if b then Some ends.Limit else None) ≡ false
 limit_stops true = refl

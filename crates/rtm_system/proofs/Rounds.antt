@@ -1,14 +1,15 @@
 -- A round of turns, try by try, and what is answered after it.
-use Rattle.std.proofs.Common.{◌≡◌, ℕ, suc, ◌+◌, ◌<◌, ◌≤◌, Bool, true, false, List, length, Option, Some, None, refl, sym, ap, subst, ◌∙◌, arith}
+use Rattle.std.proofs.Common.{◌≡◌, ℕ, suc, ◌+◌, ◌<◌, ◌≤◌, Bool, true, false, List, [], ◌∷◌, length, Option, Some, None, refl, sym, ap, subst, ◌∙◌, arith}
 use Rattle.std.specs.Prelude.{IfSome, if◌then◌else◌, is_none, is_some, nat_le, not, ◌&&◌, ◌==◌}
 use Rattle.std.specs.Option.{option_map, option_or}
-use Rattle.std.proofs.lemmas.Bool.{leb-false}
+use Rattle.std.proofs.lemmas.Bool.{eqb-true, leb-false}
+use Rattle.rtm_deck_items.specs.declared.deck.Command.{Command}
 use Rattle.rtm_deck_items.specs.View.{DeckView}
 use Rattle.rtm_model.specs.declared.entry.End.{End}
 use Rattle.rtm_model.specs.declared.entry.End.TheVariants as ends
 use Rattle.rtm_model.specs.declared.entry.Entry.{Entry}
 use Rattle.rtm_model.specs.declared.entry.What.{What}
-use Rattle.rtm_model.specs.Arrivals.{first_arrival, goes_on}
+use Rattle.rtm_model.specs.Arrivals.{first_arrival, first_arrival_in, goes_on}
 use Rattle.rtm_model.specs.Advance.{world}
 use Rattle.rtm_model.specs.Legal.{MayFollow, end_in, is_stalled}
 use Rattle.rtm_model.specs.NextEntry.{next}
@@ -62,6 +63,14 @@ step_is d w n u made arrival h m f =
     let quiet : not (goes_on d w) ≡ is_none made = quiet_is d w u h ∙ ap (λ (o : Option Entry). is_none o) (sym m) in
     let arrives : arrival ≡ first_arrival d w n (not (goes_on d w)) = f ∙ ap (first_arrival d w n) (sym quiet) in
     ap (λ (o : Option Entry). option_or o made) arrives ∙ ap (option_or (first_arrival d w n (not (goes_on d w)))) m
+
+-- none arrives where there is no command
+none_in : (d : DeckView) (w : World) (n : ℕ) (quiet : Bool) (cmd : ℕ) (commands : List Command) → (length commands == 0) ≡ true → first_arrival_in d w n quiet cmd commands ≡ None
+none_in d w n quiet cmd [] e = refl
+none_in d w n quiet cmd (command ∷ commands) e = absurd (omega (arith, eqb-true (length (command ∷ commands)) 0 e))
+
+pub plain_step : (d : DeckView) (w : World) (n u : ℕ) (made : Option Entry) → u ≤ length d.units → made ≡ turn d w u (suc (length d.units)) → (length d.commands == 0) ≡ true → made ≡ seq_step d w n u
+plain_step d w n u made h m none = step_is d w n u made None h m (sym (none_in d w n (is_none made) 0 d.commands none))
 
 pub over_ends : (d : DeckView) (w : World) (n : ℕ) → w.over ≡ true → end_in d w n ≡ Some ends.Ended
 over_ends d w n e = ap (λ (b : Bool). if b then Some ends.Ended else if is_stalled d w n (not (goes_on d w)) then Some ends.Stalled else if nat_le d.limit n then Some ends.Limit else None) e

@@ -1,6 +1,7 @@
 -- A system's control blocks stand for its trace: at the start, and after one more entry.
 use Rattle.std.proofs.Common.{◌≡◌, ℕ, ◌<◌, ◌≤◌, List, [], ◌∷◌, ◌++◌, length, sym, ap, subst, ◌∙◌, arith}
-use Rattle.std.specs.Prelude.{IsTrue}
+use Rattle.std.specs.Prelude.{IsTrue, slice_index_or}
+use Rattle.std.proofs.Math.Seq.{get_or-append_seam}
 use Rattle.rtm_deck_items.specs.View.{DeckView}
 use Rattle.rtm_deck_items.specs.WellFormed.{is_well_formed}
 use Rattle.rtm_deck_items.proofs.FormFacts.{Limits, limits}
@@ -42,6 +43,11 @@ can_follow d machine trace room last n e formed s count may =
       sound = stands_sound d machine trace room last formed s;
       may = subst (λ (w : World). MayFollow d w (length trace) e e.what) s.world_is may;
     } in subst (λ (k : ℕ). Follows d k machine e) (sym count) at
+
+-- the entry that was put behind the trace stands last
+pub last_is : (trace more : List Entry) (e : Entry) (n : ℕ) → n ≡ length trace → more ≡ trace ++ e ∷ [] → (other : Entry) → slice_index_or more n other ≡ e
+last_is trace more e n count longer other =
+    ap (λ (k : ℕ). slice_index_or more k other) count ∙ ap (λ (es : List Entry). slice_index_or es (length trace) other) longer ∙ get_or-append_seam trace e [] other
 
 -- after one more entry
 pub adds : (d : DeckView) (machine new : World) (trace more : List Entry) (room space last now n : ℕ) (e : Entry) → StandsFor d machine trace room last → length trace < d.limit

@@ -1,3 +1,14 @@
 pub mod View
 pub mod Steps
 pub mod Turned
+pub use Rattle.rtm_deck_items.specs.WellFormed
+pub use Rattle.rtm_model.specs.Advance
+pub use Rattle.rtm_model.specs.Arrivals
+pub use Rattle.rtm_model.specs.Fits
+pub use Rattle.rtm_model.specs.Legal
+pub use Rattle.rtm_model.specs.NextEntry
+pub use Rattle.rtm_model.specs.Turns
+pub use Rattle.rtm_board.specs.All
+pub use Rattle.rtm_board.specs.Commands
+pub use Rattle.rtm_system_world.specs.Seen
+pub use Rattle.rtm_system_world.specs.Shape

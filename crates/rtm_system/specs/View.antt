@@ -11,8 +11,8 @@ pub record SystemView : Type 0 where
   pub deck : DeckView
   pub trace : List Entry
 
--- The control blocks are those that live after the trace, the trace is legal, and there is room for the longest. The unit that
--- went on last is one of the deck's, or the master.
+-- The control blocks are those that live after the trace, the trace is legal, and there is room for the longest. The
+-- unit that went on last is one of the deck's, or the master.
 pub record StandsFor (d : DeckView) (machine : World) (trace : List Entry) (room last : ℕ) : Type 0 where
   pub world_is : world d trace ≡ machine
   pub legal : Legal d trace

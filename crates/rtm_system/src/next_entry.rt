@@ -34,8 +34,8 @@ impl System {
         }
     }
 
-    /// Makes the entry that is to stand next, as a turn finds it or a judge is told it. Nothing is sought: only an arrival
-    /// is tested once more, by its note.
+    /// Makes the entry that is to stand next, as a turn finds it or a judge is told it. Nothing is sought: only an
+    /// arrival is tested once more, by its note.
     pub fn make_next(&mut self, notes: &mut Notes, entry: Entry)
         requires next { IsNext self.old.deck self.old.trace entry }
         requires notes { AreAll self.old.deck notes.old }

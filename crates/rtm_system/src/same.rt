@@ -1,6 +1,6 @@
-//! Whether two entries are the same. The derived `==` of `Entry` means the same, but the search for its proof ends at a limit:
-//! what it ensures is spelled out for all pairs of forms at once, and for a mark alone that is too much. So each form is
-//! compared by a function of its own.
+//! Whether two entries are the same. The derived `==` of `Entry` means the same, but the search for its proof ends at
+//! a limit: what it ensures is spelled out for all pairs of forms at once, and for a mark alone that is too much. So
+//! each form is compared by a function of its own.
 
 ghost use Rattle.std.specs.Prelude.{◌≡◌, ◌↔◌, IsTrue, Some};
 

@@ -1,6 +1,6 @@
 //! The system: a deck, what lives of it, and the trace that it has made.
 
-ghost use Rattle.std.specs.Prelude.{◌≡◌, ◌≤◌, ◌<◌, ◌++◌, ◌∷◌, ◌+◌, [], length, nat_le, true, IsTrue, IfOk, None, Some};
+ghost use Rattle.std.specs.Prelude.{◌≡◌, ◌≤◌, ◌<◌, ◌++◌, ◌∷◌, ◌+◌, ◌==◌, [], length, nat_le, true, IsTrue, IfOk, None, Some};
 ghost use Rattle.std.specs.List.{AllByRecursion};
 ghost use Rattle.rtm_deck_items.specs.WellFormed.{is_well_formed};
 ghost use Rattle.rtm_model.specs.declared.entry.Entry.{Entry};
@@ -9,6 +9,7 @@ ghost use Rattle.rtm_model.specs.Advance.{world};
 ghost use Rattle.rtm_model.specs.Fits.{Fits};
 ghost use Rattle.rtm_model.specs.Legal.{Legal, MayFollow, end_of};
 ghost use Rattle.rtm_model.specs.NextEntry.{next};
+ghost use Rattle.rtm_system_world.specs.Seen.{IsSeen};
 ghost use Rattle.rtm_system_world.specs.Shape.{IsShaped};
 ghost use Rattle.rtm_system.specs.Turned.{IsNext, arriving_command};
 ghost use Rattle.rtm_system.specs.Steps.{arrival_answer, entries_arrived, entries_of, is_gone, step_answer, stops};
@@ -19,7 +20,7 @@ use rtm_board::Note;
 use rtm_codes::NoMemory;
 use rtm_deck_items::Deck;
 use rtm_model::{End, Entry, Fate, What};
-use rtm_system_world::World;
+use rtm_system_world::{Glance, World};
 use std::alloc::Global;
 use std::marker::Model;
 
@@ -90,13 +91,19 @@ impl System {
         self.world.next(&self.deck, unit)
     }
 
-    /// Whether it is seen at a glance that the unit has no next entry.
+    /// What is seen at a glance of the unit's next entry.
     #[inline(always)]
-    pub(crate) fn is_idle(&self, unit: u16) -> bool
-        ensures { result ≡ true
-            → next self.now.deck (world self.now.deck self.now.trace) unit ≡ None }
+    pub(crate) fn glance(&self, unit: u16) -> Glance
+        ensures { IsSeen (next self.now.deck (world self.now.deck self.now.trace) unit) result }
     {
-        self.world.is_idle(&self.deck, unit)
+        self.world.glance(&self.deck, unit)
+    }
+
+    /// Whether the deck has no command of the operator.
+    pub(crate) fn has_no_commands(&self) -> bool
+        ensures { result ≡ (length self.now.deck.commands == 0) }
+    {
+        self.deck.commands.len() == 0
     }
 
     // The unit that went on last.
@@ -131,8 +138,8 @@ impl System {
         self.trace.len() >= self.deck.entry_limit() as usize
     }
 
-    /// The arrival of the first command, in the order of the deck, that may arrive; `quiet` says that no unit has a next
-    /// entry.
+    /// The arrival of the first command, in the order of the deck, that may arrive; `quiet` says that no unit has a
+    /// next entry.
     pub(crate) fn first_arrival(&self, quiet: bool) -> Option<Entry>
         ensures { result
             ≡ first_arrival self.now.deck (world self.now.deck self.now.trace)
@@ -146,14 +153,15 @@ impl System {
     /// What becomes of the cancel that the command posts, where it may arrive. The limit of entries isn't asked.
     pub fn may_arrive(&self, cmd: u8) -> Option<Fate>
         ensures { result
-            ≡ may_arrive self.now.deck (world self.now.deck self.now.trace) (length self.now.trace) cmd }
+            ≡ may_arrive self.now.deck (world self.now.deck self.now.trace)
+            (length self.now.trace) cmd }
     {
         self.is_shaped();
         self.world.may_arrive(&self.deck, self.trace.len(), cmd)
     }
 
-    // Makes an entry that may follow: each way to make one ends here. Whose turn it was last is told for the next question who
-    // goes on.
+    // Makes an entry that may follow: each way to make one ends here. Whose turn it was last is told for the next
+    // question who goes on.
     fn add(&mut self, entry: Entry, last: u16)
         requires room { length self.old.trace < self.old.deck.limit }
         requires follows { MayFollow self.old.deck (world self.old.deck self.old.trace)
@@ -163,9 +171,10 @@ impl System {
         ensures deck { self.new.deck ≡ self.old.deck }
     {
         self.deck.keeps_its_form();
-        let index = self.trace.len() as u32;
-        self.world.apply(&self.deck, index, &entry);
+        let count = self.trace.len();
+        let index = count as u32;
         self.trace.push_reserved(entry);
+        self.world.apply(&self.deck, index, &self.trace[count]);
         self.last = last;
     }
 

@@ -11,6 +11,7 @@ ghost use Rattle.rtm_system.specs.Turned.{IsNext, arriving_command, turn_of, wan
 use crate::same::{is_entry, is_next};
 use crate::system::System;
 use rtm_model::{End, Entry, What};
+use rtm_system_world::Glance;
 
 // The unit after `unit`, round past the master, whose number is `count`.
 fn unit_after(count: u16, unit: u16) -> u16
@@ -31,19 +32,8 @@ fn arriving_command(what: What) -> Option<u8>
 }
 
 impl System {
-    // The next entry of the unit of that number. Most units wait, and are passed over at a glance.
-    #[inline(always)]
-    fn next_if_any(&self, unit: u16) -> Option<What>
-        ensures { result ≡ next self.now.deck (world self.now.deck self.now.trace) unit }
-    {
-        if self.is_idle(unit) {
-            None
-        } else {
-            self.next(unit)
-        }
-    }
-
-    // The entry of the first unit that has one, from `first` on and round past the master.
+    // The entry of the first unit that has one, from `first` on and round past the master. Most units wait, and are
+    // passed over at a glance, which sees the cards too that are met most.
     #[tactic(auto, using(crate::proofs::Rounds::round_begins, crate::proofs::Rounds::round_skips, crate::proofs::Rounds::round_finds, crate::proofs::Rounds::round_ends))]
     fn round(&self, first: u16) -> Option<Entry>
         requires { first ≤ length self.now.deck.units }
@@ -54,8 +44,17 @@ impl System {
         let count = self.deck().unit_count();
         let mut unit = first;
         'units: for _tried in 0..u32::from(count) + 1 {
-            if let Some(what) = self.next_if_any(unit) {
-                return Some(Entry { unit, what });
+            match self.glance(unit) {
+                Glance::Idle => {}
+                Glance::Executes(at) => {
+                    let what = What::Exec { at, rc: 0 };
+                    return Some(Entry { unit, what });
+                }
+                Glance::Unseen => {
+                    if let Some(what) = self.next(unit) {
+                        return Some(Entry { unit, what });
+                    }
+                }
             }
             unit = unit_after(count, unit);
         }
@@ -63,20 +62,24 @@ impl System {
     }
 
     // The first arrival, else the entry of the first unit that has one. Neither the end nor the limit is asked.
-    #[tactic(auto, using(crate::proofs::Rounds::step_is))]
+    #[tactic(auto, using(crate::proofs::Rounds::step_is, crate::proofs::Rounds::plain_step))]
     fn seq_step(&self, first: u16) -> Option<Entry>
         requires { first ≤ length self.now.deck.units }
         ensures { result
-            ≡ seq_step self.now.deck (world self.now.deck self.now.trace) (length self.now.trace) first }
+            ≡ seq_step self.now.deck (world self.now.deck self.now.trace)
+            (length self.now.trace) first }
     {
         let made = self.round(first);
+        if self.has_no_commands() {
+            return made;
+        }
         let arrival = self.first_arrival(made.is_none());
         arrival.or(made)
     }
 
-    /// The entry that a single thread makes next, where the turn is at the unit of that number: the first arrival, else that
-    /// of the first unit from there on, round past the master, that has one. Where there is none to be made, how the history
-    /// ends.
+    /// The entry that a single thread makes next, where the turn is at the unit of that number: the first arrival,
+    /// else that of the first unit from there on, round past the master, that has one. Where there is none to be
+    /// made, how the history ends.
     #[tactic(auto, using(crate::proofs::Rounds::over_ends))]
     pub fn turn(&self, first: u16) -> Result<Entry, End>
         requires { first ≤ length self.now.deck.units }
@@ -96,8 +99,8 @@ impl System {
         }
     }
 
-    /// Whose turn comes once the entry is made: that of the unit behind its own, round past the master. An arrival leaves the
-    /// turn where it is.
+    /// Whose turn comes once the entry is made: that of the unit behind its own, round past the master. An arrival
+    /// leaves the turn where it is.
     pub fn turn_after(&self, turn: u16, entry: &Entry) -> u16
         requires turn { turn ≤ length self.now.deck.units }
         requires unit { entry.now.unit ≤ length self.now.deck.units }
@@ -113,7 +116,8 @@ impl System {
     /// The arrival of the command of that number, where it may arrive.
     pub(crate) fn arrival(&self, cmd: u8) -> Option<Entry>
         ensures { result
-            ≡ arrival self.now.deck (world self.now.deck self.now.trace) (length self.now.trace) cmd }
+            ≡ arrival self.now.deck (world self.now.deck self.now.trace)
+            (length self.now.trace) cmd }
     {
         match self.may_arrive(cmd) {
             None => None,
@@ -144,8 +148,8 @@ impl System {
         !self.is_at_limit() && self.may_stand(entry)
     }
 
-    /// The one entry that the unit of that number may make next: none where it has none, where there is no such unit, and
-    /// where the history has as many entries as it may have.
+    /// The one entry that the unit of that number may make next: none where it has none, where there is no such unit,
+    /// and where the history has as many entries as it may have.
     pub fn wanted_entry(&self, unit: u16) -> Option<Entry>
         ensures { result ≡ wanted_entry self.now.deck self.now.trace unit }
     {

@@ -7,6 +7,7 @@ use Rattle.rtm_deck_items.proofs.FormFacts.{Limits, limits}
 use Rattle.rtm_model.specs.declared.reg.Reg.{Reg}
 use Rattle.rtm_model.specs.inner.Applies.{IsDormant}
 use Rattle.rtm_model.specs.Chains.{inherited_estais}
+use Rattle.rtm_model.specs.Limits.{most_estais}
 use Rattle.rtm_model.specs.inner.Soundness.{IsSound, born_units}
 use Rattle.rtm_model.specs.Tasks.{Life, Tree, is_dormant, life_of}
 use Rattle.rtm_model.specs.World.{Core, World, core_at}
@@ -26,12 +27,12 @@ fewer_born [] unit h dormant = absurd (omega (arith, h))
 fewer_born (life ∷ lives) zero h dormant = none_here (is_dormant life) life (filter (λ life. not (is_dormant life)) lives) (length lives) dormant (length-filter-le (λ life. not (is_dormant life)) lives)
 fewer_born (life ∷ lives) (suc unit) h dormant = born_rest (not (is_dormant life)) life (filter (λ life. not (is_dormant life)) lives) (length lives) (fewer_born lives unit (omega (arith, h)) dormant)
 
-one_more : (own : Option Reg) (mother : List Reg) (born units : ℕ) → length mother < born → born < units → units ≤ 64 → length (inherited_estais own mother) ≤ 63
+one_more : (own : Option Reg) (mother : List Reg) (born units : ℕ) → length mother < born → born < units → units ≤ 64 → length (inherited_estais own mother) ≤ most_estais
 one_more None mother born units h i j = omega (arith, h, i, j)
 one_more (Some reg) mother born units h i j = omega (arith, h, i, j)
 
 pub can_inherit : (d : DeckView) (n : ℕ) (w : World) (u unit : ℕ) (own : Option Reg) → IsTrue (is_well_formed d) → IsSound d n w → unit < length d.units → IsDormant w unit
-    → length (inherited_estais own (Core.estais (core_at u w))) ≤ 63
+    → length (inherited_estais own (Core.estais (core_at u w))) ≤ most_estais
 can_inherit d n w u unit own fits s there dormant =
     let lives = Tree.lives w.tree in
     one_more own (Core.estais (core_at u w)) (born_units lives) (length lives) (s.estais u)

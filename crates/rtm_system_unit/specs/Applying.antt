@@ -110,8 +110,8 @@ LandsFirst abort (Purge unit) = Unit {0}
 LandsFirst abort MemEnd = Unit {0}
 
 -- The entry can be applied to a unit of which that abort is the first that is pending: a card stands at a place of the
--- deck and finds room, codes are in range, the abort that lands is that one, a routine can be entered, and an inner bracket
--- is there to be left (this profile).
+-- deck and finds room, codes are in range, the abort that lands is that one, a routine can be entered, and an inner
+-- bracket is there to be left (this profile).
 abbrev pub CanApplyTo : DeckView → Core → List Manager1 → Option Abort → What → Type 0
 CanApplyTo d c managers abort (Exec at rc) = IsPlace d at × HasRoomFor c (op_at d at.prog at.op)
 CanApplyTo d c managers abort (Error at mark) = IsInRange mark.code

@@ -1,7 +1,7 @@
 //! What an entry changes of its own unit's control blocks.
 
-ghost use Rattle.std.specs.Prelude.{◌≡◌, ◌+◌, ◌<◌, ◌==◌, [], find, IfSome};
-ghost use Rattle.std.specs.Option.{option_map};
+ghost use Rattle.std.specs.Prelude.{◌≡◌, ◌+◌, ◌<◌, ◌==◌, [], find, IfSome, unwrap_or};
+ghost use Rattle.std.specs.Option.{option_copied, option_map};
 ghost use Rattle.rtm_codes.specs.Code.{IsInRange};
 ghost use Rattle.rtm_deck_items.specs.Reading.{op_at};
 ghost use Rattle.rtm_deck_items.specs.declared.op.Op.TheVariants.{Return};
@@ -21,15 +21,15 @@ use rtm_ending::Managers;
 use rtm_model::{Abort, Kind, Manager1, Mark, Place, Reg, What};
 use rtm_sdwa::Sdwa;
 
-// The card at a place.
+// The card at a place; none behind the last card, where a program returns.
 #[tactic(auto, using(crate::proofs::Fitting::card_is_fitting))]
-fn card_at<'d>(deck: &'d Deck, at: Place, at_end: &'d Op) -> &'d Op
-    requires { at_end.now ≡ Return }
-    ensures value { result.now ≡ op_at deck.now at.prog at.op }
-    ensures fitting { IsFitting result.now }
+#[inline(always)]
+fn card_at(deck: &Deck, at: Place) -> Option<&Op>
+    ensures value { unwrap_or (option_copied result) Return ≡ op_at deck.now at.prog at.op }
+    ensures fitting { IsFitting (unwrap_or (option_copied result) Return) }
 {
     deck.keeps_its_form();
-    here::op_at(deck, at, at_end)
+    here::card_at(deck, at)
 }
 
 fn asks_dump(op: &Op) -> bool
@@ -104,6 +104,19 @@ impl Core {
         self.levels.open_error(error);
     }
 
+    // The card at a place has met with an error.
+    #[inline(never)]
+    fn fail_at(&mut self, deck: &Deck, at: Place, mark: Mark)
+        requires { IsInRange mark.code }
+        ensures { self.new
+            ≡ with_error (error_record self.old.doomed mark (op_at deck.now at.prog at.op)) self.old }
+    {
+        match here::card_at(deck, at) {
+            None => self.open_error(mark, &Op::Return),
+            Some(op) => self.open_error(mark, op),
+        }
+    }
+
     // The abort lands, if one is pending.
     fn land(&mut self, abort: Option<Abort>)
         requires { IfSome abort (λ abort. IsInRange abort.code) }
@@ -136,10 +149,10 @@ impl Core {
     {
         // What is read says that a program has few cards, so that a place has another behind it.
         let _cards = deck.lines_of(at.prog);
-        let at_end = Op::Return;
-        let op = card_at(deck, at, &at_end);
-        let place = own_card::place_after(deck, at, rc, op);
-        self.own_card(index, place, op);
+        match card_at(deck, at) {
+            None => self.end_block(),
+            Some(op) => self.own_card(index, own_card::place_after(deck, at, rc, op), op),
+        }
     }
 
     /// The entry of that index changes the unit, for which those aborts are pending. An abort that lands is the first.
@@ -152,13 +165,14 @@ impl Core {
         pending: &Pending,
         what: &What,
     )
-        requires can { CanApplyTo deck.now self.old managers.now (first_abort pending.now) what.now }
+        requires can { CanApplyTo deck.now self.old managers.now
+            (first_abort pending.now) what.now }
         requires index { index + 1 < words }
         ensures { self.new ≡ own_entry deck.now index managers.now pending.now what.now self.old }
     {
         match *what {
             What::Exec { at, rc } => self.execute(deck, index, at, rc),
-            What::Error { at, mark } => self.open_error(mark, here::op_at(deck, at, &Op::Return)),
+            What::Error { at, mark } => self.fail_at(deck, at, mark),
             What::Land { .. } => self.land(pending.first()),
             What::Enter {
                 kind,

@@ -96,7 +96,8 @@ fn fate_rc(fate: Fate) -> Outcome
 
 fn detach_outcome(surroundings: &Surroundings) -> Outcome
     ensures { result
-        ≡ (if surroundings.now.own then Executed (fate_rc surroundings.now.fate) else fails not_a_subtask) }
+        ≡ (if surroundings.now.own then Executed (fate_rc surroundings.now.fate)
+        else fails not_a_subtask) }
 {
     if surroundings.own {
         fate_rc(surroundings.fate)

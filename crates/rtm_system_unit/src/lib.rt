@@ -15,6 +15,6 @@ mod tests;
 mod unit_core;
 mod unit_of_work;
 
-pub use here::op_at;
+pub use here::card_at;
 pub use send::types_are_send;
 pub use unit_of_work::UnitOfWork;

@@ -3,7 +3,9 @@
 ghost use Rattle.std.specs.Prelude.{◌≡◌, None, Some, false, if◌then◌else◌};
 ghost use Rattle.std.specs.Option.{option_map};
 ghost use Rattle.rtm_model.specs.declared.entry.What.{What};
+ghost use Rattle.rtm_deck_items.specs.declared.op.Op.TheVariants.{Return};
 ghost use Rattle.rtm_model.specs.Blocks.{without_bracket};
+ghost use Rattle.rtm_model.specs.Cards.{outcome};
 ghost use Rattle.rtm_model.specs.Levels.{current, error_in};
 ghost use Rattle.rtm_system_unit.specs.Choosing.{entry_of};
 ghost use Rattle.rtm_model.specs.NextEntry.{begin_of, card_entry, card_entry_at, card_entry_by, done_of, eligible_routine, ending_or_card, ends_step, enter_of, failure_of, handling_of, interruptible, is_dumped, is_entered_bare, is_from_error, is_logged, is_outermost, is_retry, land_of, last_return, leave_by_verdict, leave_of, manager_or, master_act, next_landing, next_master, next_unit, normal_end, release_or, retry_birth, retry_prog, unit_act, with_subtasks};
@@ -339,11 +341,31 @@ impl Core {
         ensures { result ≡ card_entry_at deck.now self.now surroundings.now block }
     {
         let at = block?.place;
+        match here::card_at(deck, at) {
+            None => self.entry_behind_the_last(deck, surroundings, at),
+            Some(op) => {
+                self.card_entry_by(deck, surroundings, at, self.outcome(surroundings, op))
+            }
+        }
+    }
+
+    // What the unit makes behind the last card of a program, which returns there.
+    #[inline(never)]
+    fn entry_behind_the_last(
+        &self,
+        deck: &Deck,
+        surroundings: &Surroundings,
+        at: Place,
+    ) -> Option<What>
+        ensures { result
+            ≡ card_entry_by deck.now self.now surroundings.now at
+            (outcome self.now surroundings.now Return) }
+    {
         self.card_entry_by(
             deck,
             surroundings,
             at,
-            self.outcome(surroundings, here::op_at(deck, at, &Op::Return)),
+            self.outcome(surroundings, &Op::Return),
         )
     }
 

@@ -161,15 +161,22 @@ impl Core {
 
     fn xctl(&mut self, prog: u16)
         ensures { self.new
-            ≡ record self.old { blocks = with_program prog self.old.blocks; estaes = after_xctl (newest_birth self.old.blocks) self.old.estaes } }
+            ≡ record self.old {
+              blocks = with_program prog self.old.blocks;
+              estaes = after_xctl (newest_birth self.old.blocks) self.old.estaes;
+            } }
     {
         self.estaes.over_xctl(self.blocks.newest());
         self.blocks.xctl(prog);
     }
 
-    fn end_block(&mut self)
+    /// RETURN: the request block that runs ends, unless it is its bracket's only one.
+    pub(crate) fn end_block(&mut self)
         ensures { self.new
-            ≡ record self.old { blocks = after_return self.old.blocks; estaes = without_owner (newest_birth self.old.blocks) self.old.estaes } }
+            ≡ record self.old {
+              blocks = after_return self.old.blocks;
+              estaes = without_owner (newest_birth self.old.blocks) self.old.estaes;
+            } }
     {
         self.estaes.drop_owner(self.blocks.newest());
         let _ended = self.blocks.end();
@@ -187,7 +194,10 @@ impl Core {
 
     fn overlay(&mut self, index: u32, prog: u16, term: bool, cancel: bool, xctl: bool)
         ensures { self.new
-            ≡ record self.old { estaes = after_overlay (depth_in self.old.levels) (newest_birth self.old.blocks) (new_estae index self.old prog term cancel xctl) self.old.estaes } }
+            ≡ record self.old {
+              estaes = after_overlay (depth_in self.old.levels) (newest_birth self.old.blocks)
+                  (new_estae index self.old prog term cancel xctl) self.old.estaes;
+            } }
     {
         let reg = self.new_estae(index, prog, term, cancel, xctl);
         let _old = self
@@ -197,7 +207,10 @@ impl Core {
 
     fn cancel(&mut self)
         ensures { self.new
-            ≡ record self.old { estaes = after_cancel (depth_in self.old.levels) (newest_birth self.old.blocks) self.old.estaes } }
+            ≡ record self.old {
+              estaes = after_cancel (depth_in self.old.levels)
+                  (newest_birth self.old.blocks) self.old.estaes;
+            } }
     {
         let _old = self
             .estaes
@@ -206,7 +219,8 @@ impl Core {
 
     fn add_frr(&mut self, index: u32, prog: u16)
         requires { length self.old.frrs < most_frrs }
-        ensures { self.new ≡ record self.old { frrs = new_frr index self.old prog ∷ self.old.frrs } }
+        ensures { self.new
+            ≡ record self.old { frrs = new_frr index self.old prog ∷ self.old.frrs } }
     {
         let reg = self.new_frr(index, prog);
         add_frr(&mut self.frrs, reg);
@@ -222,7 +236,10 @@ impl Core {
 
     fn replace_frr(&mut self, index: u32, prog: u16)
         ensures { self.new
-            ≡ record self.old { frrs = with_in_place (is_of_depth (depth_in self.old.levels)) (new_frr index self.old prog) self.old.frrs } }
+            ≡ record self.old {
+              frrs = with_in_place (is_of_depth (depth_in self.old.levels))
+                  (new_frr index self.old prog) self.old.frrs;
+            } }
     {
         let reg = self.new_frr(index, prog);
         let _old = self.frrs.replace(self.levels.depth(), reg);

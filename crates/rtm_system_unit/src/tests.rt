@@ -154,7 +154,8 @@ fn cards_have_their_rows(rt: HostRuntime) -> Result<(), Fail> {
     Ok(())
 }
 
-// A card that reads a record, and those that change it, in a recovery routine, with an SDWA and bare, and outside of one.
+// A card that reads a record, and those that change it, in a recovery routine, with an SDWA and bare, and outside of
+// one.
 #[test]
 fn bare_routines_have_no_sdwa(rt: HostRuntime) -> Result<(), Fail> {
     let label = Name(*b"AGAIN   ");

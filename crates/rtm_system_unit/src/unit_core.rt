@@ -1,6 +1,7 @@
 //! What only a unit's own birth, entries and purge change.
 
-ghost use Rattle.std.specs.Prelude.{◌≡◌, ◌<◌, [], IfOk};
+ghost use Rattle.std.specs.Prelude.{◌≡◌, ◌<◌, [], IfOk, unwrap_or};
+ghost use Rattle.std.specs.Option.{option_copied};
 ghost use Rattle.rtm_model.specs.World.{UnitOfWork, unborn_unit};
 ghost use Rattle.rtm_deck_items.specs.declared.op.Op.TheVariants.{Return};
 ghost use Rattle.rtm_model.specs.Surroundings.{op_here};
@@ -83,13 +84,13 @@ impl Core {
         })
     }
 
-    /// The operation at which the unit stands, in the deck itself; behind the last card `at_end`, the RETURN that the caller
-    /// brings along. Where the unit has no request block it is the first card of the first program, which no entry asks for.
-    pub(crate) fn card_here<'d>(&self, deck: &'d Deck, at_end: &'d Op) -> &'d Op
-        requires { at_end.now ≡ Return }
-        ensures { result.now ≡ op_here deck.now self.now }
+    /// The card at which the unit stands, in the deck itself; none behind the last card, where a program returns.
+    /// Where the unit has no request block it is the first card of the first program, which no entry asks for.
+    #[inline(always)]
+    pub(crate) fn card_here<'d>(&self, deck: &'d Deck) -> Option<&'d Op>
+        ensures { unwrap_or (option_copied result) Return ≡ op_here deck.now self.now }
     {
-        here::op_at(deck, self.blocks.place(), at_end)
+        here::card_at(deck, self.blocks.place())
     }
 
     /// The unit is purged: its control blocks go.

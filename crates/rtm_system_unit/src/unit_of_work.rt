@@ -1,21 +1,19 @@
 //! A unit of work: what it makes next, and what an entry changes of it.
 
-ghost use Rattle.std.specs.Prelude.{◌≡◌, ◌+◌, ◌<◌, ◌≤◌, [], IfOk, is_some, length};
-ghost use Rattle.std.specs.Option.{option_map};
+ghost use Rattle.std.specs.Prelude.{◌≡◌, ◌+◌, ◌<◌, ◌≤◌, [], IfOk, is_some, length, unwrap_or};
+ghost use Rattle.std.specs.Option.{option_copied};
 ghost use Rattle.rtm_model.specs.Aborts.{fate_of, first_abort};
 ghost use Rattle.rtm_model.specs.Posts.{with_posted};
 ghost use Rattle.rtm_model.specs.OwnChange.{own_change, own_pending};
 ghost use Rattle.rtm_model.specs.Advance.{cause_of, purged_core};
 ghost use Rattle.rtm_model.specs.Chains.{inherited_estais};
 ghost use Rattle.rtm_model.specs.Levels.{depth_in};
-ghost use Rattle.rtm_model.specs.Limits.{words};
+ghost use Rattle.rtm_model.specs.Limits.{most_estais, words};
 ghost use Rattle.rtm_model.specs.NextEntry.{next_master, next_unit};
 ghost use Rattle.rtm_deck_items.specs.declared.op.Op.TheVariants.{Return};
 ghost use Rattle.rtm_model.specs.Surroundings.{op_here};
 ghost use Rattle.rtm_model.specs.World.{at_birth, unborn_unit};
 ghost use Rattle.rtm_model.specs.Blocks.{newest_block};
-ghost use Rattle.rtm_model.specs.declared.block.Block.{Block};
-ghost use Rattle.rtm_model.specs.declared.entry.What.TheVariants.{Exec};
 ghost use Rattle.rtm_system_unit.specs.Applying.{CanApplyTo, LandsFirst};
 ghost use Rattle.rtm_system_unit.specs.Normal.{runs_normally, may_wait};
 
@@ -25,7 +23,7 @@ use rtm_chains::EstaiList;
 use rtm_codes::{Code, NoMemory};
 use rtm_deck_items::{Deck, Op};
 use rtm_ending::Managers;
-use rtm_model::{Abort, Class, Fate, Reg, Surroundings, What};
+use rtm_model::{Abort, Block, Class, Fate, Reg, Surroundings, What};
 use rtm_sdwa::Sdwa;
 use std::alloc::Global;
 use std::marker::Model;
@@ -84,17 +82,18 @@ impl UnitOfWork {
         })
     }
 
-    /// The operation at which the unit stands, in the deck itself; behind the last card `at_end`, the RETURN that the caller
-    /// brings along. Where the unit has no request block it is the first card of the first program, which no entry asks for.
-    pub fn card_here<'d>(&self, deck: &'d Deck, at_end: &'d Op) -> &'d Op
-        requires { at_end.now ≡ Return }
-        ensures { result.now ≡ op_here deck.now self.now.core }
+    /// The card at which the unit stands, in the deck itself; none behind the last card, where a program returns
+    /// (this profile). Where the unit has no request block it is the first card of the first program, which no entry
+    /// asks for.
+    #[inline(always)]
+    pub fn card_here<'d>(&self, deck: &'d Deck) -> Option<&'d Op>
+        ensures { unwrap_or (option_copied result) Return ≡ op_here deck.now self.now.core }
     {
-        self.core.card_here(deck, at_end)
+        self.core.card_here(deck)
     }
 
-    /// Whether the unit goes on with its card: no error is open in its innermost bracket, it hasn't begun to end, and no
-    /// abort is pending.
+    /// Whether the unit goes on with its card: no error is open in its innermost bracket, it hasn't begun to end, and
+    /// no abort is pending.
     #[inline(always)]
     pub fn runs_normally(&self) -> bool
         ensures { result ≡ runs_normally self.now }
@@ -112,19 +111,12 @@ impl UnitOfWork {
         !self.core.frrs.any() && !self.core.levels.in_manager()
     }
 
-    /// The execution, with 0, of the card at which the unit stands; none where it has no request block.
+    /// The request block that runs, if the unit has one.
     #[inline(always)]
-    pub fn execution(&self) -> Option<What>
-        ensures { result
-            ≡ option_map (λ block. Exec (Block.place block) 0) (newest_block self.now.core.blocks) }
+    pub fn newest_block(&self) -> Option<Block>
+        ensures { result ≡ newest_block self.now.core.blocks }
     {
-        match self.core.blocks.newest_block() {
-            Some(block) => Some(What::Exec {
-                at: block.place,
-                rc: 0,
-            }),
-            None => None,
-        }
+        self.core.blocks.newest_block()
     }
 
     /// The entry that the unit makes next, while it lives and memory end has not begun.
@@ -170,11 +162,11 @@ impl UnitOfWork {
         self.core.blocks.begin(born, prog);
     }
 
-    /// A subtask is born, as by `be_born`, with the ESTAI routine that its own ATTACHX names, if it names one, and those
-    /// of its mother.
+    /// A subtask is born, as by `be_born`, with the ESTAI routine that its own ATTACHX names, if it names one, and
+    /// those of its mother.
     pub fn be_attached(&mut self, born: u32, prog: u16, own: Option<Reg>, mother: &EstaiList)
         requires unborn { self.old ≡ unborn_unit }
-        requires room { length (inherited_estais own mother.now) ≤ 63 }
+        requires room { length (inherited_estais own mother.now) ≤ most_estais }
         ensures { self.new ≡ at_birth born prog (inherited_estais own mother.now) self.old }
     {
         self.core.blocks.begin(born, prog);

@@ -16,6 +16,7 @@ use Rattle.rtm_model.specs.Births.{new_estai}
 use Rattle.rtm_model.specs.Blocks.{newest_bracket}
 use Rattle.rtm_model.specs.Chains.{inherited_estais}
 use Rattle.rtm_model.specs.Ending.{AreBornBefore, AreHeldBefore, Holdings, IsHeldBefore, no_holdings}
+use Rattle.rtm_model.specs.Limits.{most_estais}
 use Rattle.rtm_model.specs.inner.Soundness.{AreHeld, AreHoldings, HoldingsFall, IsSound}
 use Rattle.rtm_model.specs.World.{Core, UnitOfWork, World, core_at, on_unit, unborn_unit, unit_at}
 use Rattle.rtm_model.proofs.Lists.{below_length, both_true}
@@ -89,7 +90,7 @@ attached_after : (d : DeckView) (n : ℕ) (w : World) (u unit : ℕ) (own : Opti
 attached_after d n w u unit own f formed s c lt dormant = record {
   born = born_after d n w u unit f s c lt dormant;
   other = other_unit d n w u unit s lt dormant c.some;
-  room = subst (λ (l : List Reg). length (inherited_estais own l) ≤ 63) (sym (same_estais w u f c)) (can_inherit d n w u unit own formed s lt dormant);
+  room = subst (λ (l : List Reg). length (inherited_estais own l) ≤ most_estais) (sym (same_estais w u f c)) (can_inherit d n w u unit own formed s lt dormant);
 }
 
 in_units : (d : DeckView) (u : ℕ) (p : UnitCard → Bool) (o : Option UnitCard) → slice_get d.units u ≡ o → IsTrue (option_map_or p o false) → u < length d.units

@@ -7,3 +7,4 @@ pub mod Applying
 pub mod Arriving
 pub mod NeedsLemmas
 pub mod Normal
+pub mod Seeing

@@ -1,7 +1,7 @@
 -- What is asked by a case is all that the next entry needs of others.
 use Rattle.std.proofs.Common.{◌≡◌, ℕ, Bool, eqb, true, false, Option, Some, None, refl, sym, ap, ◌∙◌}
 use Rattle.std.specs.Prelude.{if◌then◌else◌, is_none, is_some, ◌&&◌}
-use Rattle.std.proofs.lemmas.Bool.{eqb-false}
+use Rattle.std.proofs.lemmas.Bool.{and_parts, eqb-false}
 use Rattle.rtm_codes.specs.declared.code.Code.{Code}
 use Rattle.rtm_deck_items.specs.Reading.{op_at}
 use Rattle.rtm_deck_items.specs.View.{DeckView}
@@ -198,13 +198,9 @@ card_goes_on d w u c (Some begun) e =
     ∙ same_carded d w u c
     ∙ sym (else_is (is_outermost c.levels) (unit_act begun (surroundings_at d w u (op_here d c))) (card_entry d c (surroundings_at d w u (op_here d c))) e)
 
-some_begun : (b t : Bool) → (b && t) ≡ true → b ≡ true
-some_begun true t e = refl
-some_begun false t e = absurd cc
-
 same_at_end : (d : DeckView) (w : World) (u : ℕ) (c : Core) (op : Op) → is_ending c ≡ true → next_unit d c (needs_of_end d w u) ≡ next_unit d c (surroundings_at d w u op)
 same_at_end d w u c op e =
-    let begun = some_begun (is_some c.begun) (is_outermost c.levels) e in
+    let begun = (and_parts (is_some c.begun) (is_outermost c.levels) e).0 in
     let rest = is_interruptible (has_frr c.frrs) (shielded c.levels) c.doomed (error_here c.levels) in
     let lands : next_landing c (needs_of_end d w u) ≡ next_landing c (surroundings_at d w u op) =
     none_lands c.begun rest (Surroundings.abort (needs_of_end d w u)) begun ∙ sym (none_lands c.begun rest (Surroundings.abort (surroundings_at d w u op)) begun) in

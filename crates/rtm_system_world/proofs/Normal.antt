@@ -1,6 +1,7 @@
 -- The next entry of a unit that goes on with its card, at the cards that are met most.
 use Rattle.std.proofs.Common.{◌≡◌, ℕ, Bool, true, false, Option, Some, None, refl, ap, ◌∙◌}
 use Rattle.std.specs.Prelude.{if◌then◌else◌, is_none, is_some, not, ◌&&◌, ◌||◌}
+use Rattle.std.proofs.lemmas.Bool.{and_parts, not-true}
 use Rattle.std.specs.Option.{option_map}
 use Rattle.rtm_codes.specs.declared.code.Code.{Code}
 use Rattle.rtm_deck_operands.specs.declared.name.Name.{Name}
@@ -26,15 +27,6 @@ use Rattle.rtm_model.specs.World.{Core, UnitOfWork, World, core_at, is_srb, unit
 use Rattle.rtm_system_unit.specs.Normal.{runs_normally, may_wait}
 use Rattle.rtm_system_world.specs.Needs.{waits_at}
 
-both : (a b : Bool) → (a && b) ≡ true → (a ≡ true) × (b ≡ true)
-both true true e = (refl, refl)
-both true false e = absurd cc
-both false b e = absurd cc
-
-not_so : (b : Bool) → not b ≡ true → b ≡ false
-not_so true e = absurd cc
-not_so false e = refl
-
 absent : {X : Type 0} (o : Option X) → is_some o ≡ false → o ≡ None
 absent None e = refl
 absent (Some x) e = absurd cc
@@ -57,9 +49,9 @@ normal_by d c a no_error not_begun no_abort =
 normal_next : (d : DeckView) (w : World) (u : ℕ) → runs_normally (unit_at u w.units) ≡ true → next_unit d (core_at u w) (surroundings d w u) ≡ card_entry d (core_at u w) (surroundings d w u)
 normal_next d w u e =
     let c = core_at u w in
-    let ab = both (not (error_here c.levels) && is_none c.begun) (is_none (first_abort (UnitOfWork.pending (unit_at u w.units)))) e in
-    let a = both (not (error_here c.levels)) (is_none c.begun) ab.0 in
-    normal_by d c (surroundings d w u) (not_so (error_here c.levels) a.0) a.1 ab.1
+    let ab = and_parts (not (error_here c.levels) && is_none c.begun) (is_none (first_abort (UnitOfWork.pending (unit_at u w.units)))) e in
+    let a = and_parts (not (error_here c.levels)) (is_none c.begun) ab.0 in
+    normal_by d c (surroundings d w u) (not-true (error_here c.levels) a.0) a.1 ab.1
 
 abbrev op_of : DeckView → Option Block → Op
 op_of d b = op_at d (Place.prog (place_or_none b)) (Place.op (place_or_none b))
@@ -112,20 +104,20 @@ pub waits_for_event : (d : DeckView) (w : World) (u event : ℕ) → runs_normal
     → waits_at d u (core_at u w) (is_posted event (Tree.events w.tree)) ≡ true → next_unit d (core_at u w) (surroundings d w u) ≡ None
 waits_for_event d w u event normal e waits =
     let c = core_at u w in
-    let fs = both (not (is_posted event (Tree.events w.tree)) && not (is_srb d u)) (may_wait c) waits in
-    let f = both (not (is_posted event (Tree.events w.tree))) (not (is_srb d u)) fs.0 in
-    let m = both (not (has_frr c.frrs)) (not (in_manager c.levels)) fs.1 in
-    let found : is_found w u (op_here d c) ≡ false = ap (is_found w u) e ∙ not_so _ f.0 in
+    let fs = and_parts (not (is_posted event (Tree.events w.tree)) && not (is_srb d u)) (may_wait c) waits in
+    let f = and_parts (not (is_posted event (Tree.events w.tree))) (not (is_srb d u)) fs.0 in
+    let m = and_parts (not (has_frr c.frrs)) (not (in_manager c.levels)) fs.1 in
+    let found : is_found w u (op_here d c) ≡ false = ap (is_found w u) e ∙ not-true _ f.0 in
     normal_next d w u normal
-    ∙ wait_at d c (surroundings d w u) (newest_block c.blocks) event e (not_so (is_srb d u) f.1) (not_so (has_frr c.frrs) m.0) (not_so (in_manager c.levels) m.1) found
+    ∙ wait_at d c (surroundings d w u) (newest_block c.blocks) event e (not-true (is_srb d u) f.1) (not-true (has_frr c.frrs) m.0) (not-true (in_manager c.levels) m.1) found
 
 pub waits_for_task : (d : DeckView) (w : World) (u task : ℕ) → runs_normally (unit_at u w.units) ≡ true → op_here d (core_at u w) ≡ ops.WaitTask task
     → waits_at d u (core_at u w) (has_ended (life_of task (Tree.lives w.tree))) ≡ true → next_unit d (core_at u w) (surroundings d w u) ≡ None
 waits_for_task d w u task normal e waits =
     let c = core_at u w in
-    let fs = both (not (has_ended (life_of task (Tree.lives w.tree))) && not (is_srb d u)) (may_wait c) waits in
-    let f = both (not (has_ended (life_of task (Tree.lives w.tree)))) (not (is_srb d u)) fs.0 in
-    let m = both (not (has_frr c.frrs)) (not (in_manager c.levels)) fs.1 in
-    let found : is_found w u (op_here d c) ≡ false = ap (is_found w u) e ∙ not_so _ f.0 in
+    let fs = and_parts (not (has_ended (life_of task (Tree.lives w.tree))) && not (is_srb d u)) (may_wait c) waits in
+    let f = and_parts (not (has_ended (life_of task (Tree.lives w.tree)))) (not (is_srb d u)) fs.0 in
+    let m = and_parts (not (has_frr c.frrs)) (not (in_manager c.levels)) fs.1 in
+    let found : is_found w u (op_here d c) ≡ false = ap (is_found w u) e ∙ not-true _ f.0 in
     normal_next d w u normal
-    ∙ task_at d c (surroundings d w u) (newest_block c.blocks) task e (not_so (is_srb d u) f.1) (not_so (has_frr c.frrs) m.0) (not_so (in_manager c.levels) m.1) found
+    ∙ task_at d c (surroundings d w u) (newest_block c.blocks) task e (not-true (is_srb d u) f.1) (not-true (has_frr c.frrs) m.0) (not-true (in_manager c.levels) m.1) found

@@ -1,43 +1,20 @@
--- Whether some unit goes on.
-use Rattle.std.proofs.Common.{◌≡◌, ℕ, zero, suc, ◌+◌, ◌<◌, Bool, true, false, length, refl, sym, subst, arith, eqb}
-use Rattle.std.specs.Prelude.{is_some, ◌||◌}
-use Rattle.std.proofs.lemmas.Bool.{eqb-false, eqb-true}
+-- Whether some unit goes on: a search by number.
+use Rattle.std.proofs.Common.{◌≡◌, ℕ, suc, ◌+◌, ◌<◌, false, true, length, sym, subst, arith}
+use Rattle.std.specs.Prelude.{is_some}
+use Rattle.std.proofs.lemmas.Bool.{or_from}
 use Rattle.rtm_deck_items.specs.View.{DeckView}
 use Rattle.rtm_model.specs.Arrivals.{goes_on, goes_on_below}
 use Rattle.rtm_model.specs.NextEntry.{next}
 use Rattle.rtm_model.specs.World.{World}
-
-or_right : (a b : Bool) → b ≡ true → (a || b) ≡ true
-or_right true b e = refl
-or_right false b e = e
-
-or_left : (a b : Bool) → a ≡ true → (a || b) ≡ true
-or_left true b e = refl
-or_left false b e = absurd cc
-
-neither : (a b : Bool) → a ≡ false → b ≡ false → (a || b) ≡ false
-neither true b e f = absurd cc
-neither false b e f = f
+use Rattle.rtm_model.proofs.GoingOn.{goes_on_by}
 
 suc_is : (u : ℕ) → u + 1 ≡ suc u
 suc_is u = omega arith
 
-less : (u k : ℕ) → u < suc k → (u ≡ k → ⊥) → u < k
-less u k lt ne = omega (arith, lt, ne)
-
 -- none below it, and not it
 pub none_more : (d : DeckView) (w : World) (u : ℕ) → goes_on_below d w u ≡ false → is_some (next d w u) ≡ false → goes_on_below d w (u + 1) ≡ false
-none_more d w u e f = subst (λ (k : ℕ). goes_on_below d w k ≡ false) (sym (suc_is u)) (neither (goes_on_below d w u) (is_some (next d w u)) e f)
+none_more d w u e f = subst (λ (k : ℕ). goes_on_below d w k ≡ false) (sym (suc_is u)) (or_from (goes_on_below d w u) (is_some (next d w u)) e f)
 
--- one below that number
-here_or_below : (d : DeckView) (w : World) (u k : ℕ) (b : Bool) → eqb u k ≡ b → u < suc k → is_some (next d w u) ≡ true → (u < k → goes_on_below d w k ≡ true) → goes_on_below d w (suc k) ≡ true
-here_or_below d w u k true same lt e more = or_right (goes_on_below d w k) (is_some (next d w k)) (subst (λ (j : ℕ). is_some (next d w j) ≡ true) (eqb-true u k same) e)
-here_or_below d w u k false same lt e more = or_left (goes_on_below d w k) (is_some (next d w k)) (more (less u k lt (eqb-false u k same)))
-
-pub some_below : (d : DeckView) (w : World) (u k : ℕ) → u < k → is_some (next d w u) ≡ true → goes_on_below d w k ≡ true
-some_below d w u zero lt e = absurd (omega arith)
-some_below d w u (suc k) lt e = here_or_below d w u k (eqb u k) refl lt e (λ below. some_below d w u k below e)
-
--- and so the whole goes on
+-- one of the deck's does
 pub some_in_all : (d : DeckView) (w : World) (u : ℕ) → u < length d.units → is_some (next d w u) ≡ true → goes_on d w ≡ true
-some_in_all d w u lt e = some_below d w u (suc (length d.units)) (omega arith) e
+some_in_all d w u lt e = goes_on_by d w u (omega (arith, lt)) e

@@ -11,7 +11,7 @@ use Rattle.rtm_model.specs.declared.reg.Reg.{Reg}
 use Rattle.rtm_model.specs.Births.{new_estai}
 use Rattle.rtm_model.specs.Chains.{inherited_estais}
 use Rattle.rtm_model.specs.Ending.{AreHeldBefore, held_count, holdings_of}
-use Rattle.rtm_model.specs.Limits.{most_holdings, most_managers}
+use Rattle.rtm_model.specs.Limits.{most_estais, most_holdings, most_managers}
 use Rattle.rtm_model.specs.World.{Core, UnitOfWork, World, core_at, related_task, unborn_unit, unit_at}
 
 -- the unit can be born: it is there, and as before its birth
@@ -23,7 +23,7 @@ pub record CanBeBorn (w : World) (unit : ℕ) : Type 0 where
 pub record CanBeAttached (n : ℕ) (w : World) (mother unit : ℕ) (estai : Option Reg) : Type 0 where
   pub born : CanBeBorn w unit
   pub other : unit ≡ mother → ⊥
-  pub room : length (inherited_estais estai (Core.estais (core_at mother w))) ≤ 63
+  pub room : length (inherited_estais estai (Core.estais (core_at mother w))) ≤ most_estais
 
 -- there is room for one more holding of the owner, which is the newest of all
 pub record CanHold (d : DeckView) (n : ℕ) (w : World) (owner : ℕ) : Type 0 where

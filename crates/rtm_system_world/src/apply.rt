@@ -19,10 +19,10 @@ use crate::needs::related_task;
 use crate::world::World;
 use crate::{posted, units};
 use rtm_codes::Code;
-use rtm_deck_items::{Command, Deck, Op};
+use rtm_deck_items::{Command, Deck};
 use rtm_model::{Entry, Kind, What};
 use rtm_sdwa::Sdwa;
-use rtm_system_unit::op_at;
+use rtm_system_unit::card_at;
 
 impl World {
     // An entry changes its own unit's control blocks.
@@ -32,7 +32,10 @@ impl World {
             (first_abort (UnitOfWork.pending (unit_at unit self.old.units))) what.now }
         requires index { index + 1 < words }
         ensures { self.new
-            ≡ record self.old { units = on_unit unit (own_change deck.now index self.old.managers what.now) self.old.units } }
+            ≡ record self.old {
+              units = on_unit unit (own_change deck.now index self.old.managers what.now)
+                  self.old.units;
+            } }
     {
         units::change_own(&mut self.units, deck, index, &self.managers, unit, what);
     }
@@ -53,7 +56,10 @@ impl World {
     fn abort_subtasks(&mut self, deck: &Deck, index: u32, unit: u16)
         requires shape { IsShaped deck.now self.old }
         ensures { self.new
-            ≡ record self.old { units = post_to_subtasks unit (mother_abort index) (Tree.lives self.old.tree) self.old.units } }
+            ≡ record self.old {
+              units = post_to_subtasks unit (mother_abort index)
+                  (Tree.lives self.old.tree) self.old.units;
+            } }
     {
         units::post_to_subtasks(
             &mut self.units,
@@ -135,9 +141,10 @@ impl World {
     {
         match *what {
             What::Exec { at, rc } => {
-                let at_end = Op::Return;
-                let op = op_at(deck, at, &at_end);
-                self.go_beyond_card(deck, index, unit, rc, op);
+                // Behind the last card a program returns, which changes nothing beyond its unit.
+                if let Some(op) = card_at(deck, at) {
+                    self.go_beyond_card(deck, index, unit, rc, op);
+                }
             }
             What::Leave { kind, reg, .. } => self.leave(kind, reg),
             What::Arrive { cmd, .. } => {

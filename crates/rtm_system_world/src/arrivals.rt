@@ -85,8 +85,8 @@ impl World {
         }
     }
 
-    /// What becomes of the cancel that the command of that number posts, where it may arrive after `entries` entries. Other
-    /// units are asked only where fewer entries stand than the command wants.
+    /// What becomes of the cancel that the command of that number posts, where it may arrive after `entries` entries.
+    /// Other units are asked only where fewer entries stand than the command wants.
     pub fn may_arrive(&self, deck: &Deck, entries: usize, cmd: u8) -> Option<Fate>
         requires shape { IsShaped deck.now self.now }
         ensures { result ≡ may_arrive deck.now self.now entries cmd }
@@ -119,8 +119,8 @@ impl World {
         arrival_of(command.target, cmd as u8, fate)
     }
 
-    /// The arrival of the first command, in the order of the deck, that may arrive after `entries` entries; `quiet` says
-    /// that no unit has a next entry.
+    /// The arrival of the first command, in the order of the deck, that may arrive after `entries` entries; `quiet`
+    /// says that no unit has a next entry.
     #[tactic(auto, using(crate::proofs::Arriving::arrives_here, crate::proofs::Arriving::arrives_later, crate::proofs::Arriving::arrives_never))]
     pub fn first_arrival(&self, deck: &Deck, entries: usize, quiet: bool) -> Option<Entry>
         requires few { length deck.now.commands ≤ most_commands }

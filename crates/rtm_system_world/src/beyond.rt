@@ -83,7 +83,11 @@ impl World {
         requires hold { CanHold deck.now index self.old unit }
         requires shape { length self.old.holdings ≡ length deck.now.units + 1 }
         ensures { self.new
-            ≡ record self.old { holdings = after_get (record { born = index; class = class; id = id; owner = unit }) self.old.holdings } }
+            ≡ record self.old {
+              holdings = after_get
+                  (record { born = index; class = class; id = id; owner = unit })
+                  self.old.holdings;
+            } }
     {
         let _got = self.holdings.get(Holding {
             born: index,
@@ -117,7 +121,8 @@ impl World {
 
     // RESMGR DELETE.
     fn delete_manager(&mut self, prog: u16, task: Option<u16>)
-        ensures { self.new ≡ record self.old { managers = after_delete prog task self.old.managers } }
+        ensures { self.new
+            ≡ record self.old { managers = after_delete prog task self.old.managers } }
     {
         let _deleted = self.managers.delete(prog, task);
     }

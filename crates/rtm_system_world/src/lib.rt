@@ -5,6 +5,7 @@
 mod apply;
 mod arrivals;
 mod beyond;
+mod glance;
 mod needs;
 mod next_entry;
 mod posted;
@@ -13,5 +14,6 @@ mod surroundings;
 mod units;
 mod world;
 
+pub use glance::Glance;
 pub use send::types_are_send;
 pub use world::World;

@@ -1,6 +1,8 @@
 //! What the case of a unit's next entry asks of others, and plain constants for what it doesn't ask.
 
 ghost use Rattle.std.specs.Prelude.{◌≡◌};
+ghost use Rattle.rtm_deck_items.specs.View.{DeckView};
+ghost use Rattle.rtm_deck_items.specs.declared.op.Op.TheVariants.{Return};
 ghost use Rattle.rtm_model.specs.Surroundings.{op_here};
 ghost use Rattle.rtm_model.specs.World.{is_srb, master, related_task, unit_at};
 ghost use Rattle.rtm_system_world.specs.Needs.{is_ending, needs_of_card, needs_of_end, needs_of_master, needs_of_memory_end};
@@ -116,7 +118,23 @@ impl World {
         requires { state.now ≡ unit_at unit self.now.units }
         ensures { result ≡ needs_of_card deck.now self.now unit (op_here deck.now state.now.core) }
     {
-        self.needs_of_card(deck, unit, state, state.card_here(deck, &Op::Return))
+        match state.card_here(deck) {
+            None => self.needs_behind_the_last(unit, state),
+            Some(op) => self.needs_of_card(deck, unit, state, op),
+        }
+    }
+
+    // What is asked behind the last card of a program, which returns there.
+    #[inline(never)]
+    fn needs_behind_the_last(&self, unit: u16, state: &UnitOfWork) -> Surroundings
+        requires { state.now ≡ unit_at unit self.now.units }
+        ensures { (d : DeckView) → result ≡ needs_of_card d self.now unit Return }
+    {
+        Surroundings {
+            abort: state.first_abort(),
+            subtask: self.tree.subtasks_left(unit),
+            ..NO_NEEDS
+        }
     }
 
     /// What the end of the unit asks, one after the other.

@@ -6,16 +6,17 @@ ghost use Rattle.rtm_model.specs.NextEntry.{next, next_of_unit, next_of_master, 
 ghost use Rattle.rtm_model.specs.Surroundings.{op_here, surroundings};
 ghost use Rattle.rtm_model.specs.Tasks.{Tree, is_living};
 ghost use Rattle.rtm_system_world.specs.Needs.{is_ending, waits_at};
-ghost use Rattle.rtm_system_world.specs.Idle.{is_idle, waits, waits_by};
+ghost use Rattle.rtm_system_world.specs.Seen.{IsSeen, execution_of, glance, glance_at_living, glance_by, idle_if};
 ghost use Rattle.rtm_system_world.specs.Shape.{IsShaped};
 ghost use Rattle.rtm_system_unit.specs.Normal.{runs_normally};
 ghost use Rattle.rtm_model.specs.World.{core_at, lives_in, master, unit_at};
 
+use crate::glance::Glance;
 use crate::needs::{is_ending, is_srb};
 use crate::world::World;
 use rtm_codes::Code;
 use rtm_deck_items::{Deck, Op};
-use rtm_model::What;
+use rtm_model::{Block, What};
 use rtm_system_unit::UnitOfWork;
 
 // Whether the unit waits at a card of WAIT or WAITT, where what it waits for is there or not.
@@ -24,6 +25,25 @@ fn has_to_wait(deck: &Deck, unit: u16, state: &UnitOfWork, found: bool) -> bool
     ensures { result ≡ waits_at deck.now unit state.now.core found }
 {
     !found && !is_srb(deck, unit) && state.may_wait()
+}
+
+// Idle where the unit waits, and else unseen.
+#[inline(always)]
+fn idle_if(waits: bool) -> Glance
+    ensures { result ≡ idle_if waits }
+{
+    if waits { Glance::Idle } else { Glance::Unseen }
+}
+
+// The execution of the card at which that request block stands, if there is one.
+#[inline(always)]
+fn execution_of(block: Option<Block>) -> Glance
+    ensures { result ≡ execution_of block }
+{
+    match block {
+        None => Glance::Unseen,
+        Some(block) => Glance::Executes(block.place),
+    }
 }
 
 impl World {
@@ -54,8 +74,77 @@ impl World {
         }
     }
 
-    // The next entry of a unit that goes on with its card: the cards that are met most need no look at the rest.
-    #[tactic(auto, using(crate::proofs::Normal::executes_nop, crate::proofs::Normal::executes_branch))]
+    // What is seen of a unit that goes on with its card, by that card.
+    #[inline(always)]
+    fn glance_by_card(&self, deck: &Deck, unit: u16, state: &UnitOfWork) -> Glance
+        requires state { state.now ≡ unit_at unit self.now.units }
+        ensures { result ≡ glance_by deck.now self.now unit (op_here deck.now state.now.core) }
+    {
+        match state.card_here(deck) {
+            Some(Op::Nop) => execution_of(state.newest_block()),
+            Some(Op::Branch { .. }) => execution_of(state.newest_block()),
+            Some(Op::Wait { event }) => {
+                idle_if(has_to_wait(deck, unit, state, self.tree.event_posted(*event)))
+            }
+            Some(Op::WaitTask { unit: task }) => {
+                idle_if(has_to_wait(deck, unit, state, self.tree.ended(*task)))
+            }
+            _ => Glance::Unseen,
+        }
+    }
+
+    // The same, and what that says of its next entry.
+    #[inline(always)]
+    fn glance_here(&self, deck: &Deck, unit: u16, state: &UnitOfWork) -> Glance
+        requires state { state.now ≡ unit_at unit self.now.units }
+        requires normal { runs_normally state.now ≡ true }
+        ensures value { result
+            ≡ glance_by deck.now self.now unit (op_here deck.now state.now.core) }
+        ensures seen { IsSeen
+            (next_unit deck.now (core_at unit self.now) (surroundings deck.now self.now unit)) result }
+    {
+        self.glance_by_card(deck, unit, state)
+    }
+
+    // What is seen of a unit that lives.
+    #[inline(always)]
+    fn glance_at_living(&self, deck: &Deck, unit: u16) -> Glance
+        ensures { result ≡ glance_at_living deck.now self.now unit }
+    {
+        match self.units.get(unit as usize) {
+            None => Glance::Unseen,
+            Some(state) if state.runs_normally() => self.glance_by_card(deck, unit, state),
+            Some(_) => Glance::Unseen,
+        }
+    }
+
+    // What is seen of any unit.
+    #[inline(always)]
+    fn glance_at(&self, deck: &Deck, unit: u16) -> Glance
+        ensures { result ≡ glance deck.now self.now unit }
+    {
+        if unit == deck.unit_count() {
+            return idle_if(self.memory_end.is_none());
+        }
+        if self.memory_end.is_some() || !self.tree.living(unit) {
+            Glance::Idle
+        } else {
+            self.glance_at_living(deck, unit)
+        }
+    }
+
+    /// What is seen at a glance of the next entry of the unit of that number; the number of units is the master's.
+    /// Who tries units in turns passes most of them over so, and finds the cards that are met most.
+    #[tactic(auto, using(crate::proofs::Seeing::glance_is_seen))]
+    #[inline(always)]
+    pub fn glance(&self, deck: &Deck, unit: u16) -> Glance
+        ensures value { result ≡ glance deck.now self.now unit }
+        ensures seen { IsSeen (next deck.now self.now unit) result }
+    {
+        self.glance_at(deck, unit)
+    }
+
+    // The next entry of a unit that goes on with its card: what a glance sees needs no look at the rest.
     #[inline(always)]
     fn next_by_card(&self, deck: &Deck, unit: u16, state: &UnitOfWork) -> Option<What>
         requires state { state.now ≡ unit_at unit self.now.units }
@@ -63,55 +152,11 @@ impl World {
         ensures { result
             ≡ next_unit deck.now (core_at unit self.now) (surroundings deck.now self.now unit) }
     {
-        match state.card_here(deck, &Op::Return) {
-            Op::Nop => state.execution(),
-            Op::Branch { .. } => state.execution(),
-            _ => self.next_by_case(deck, unit, state),
+        match self.glance_here(deck, unit, state) {
+            Glance::Idle => None,
+            Glance::Executes(at) => Some(What::Exec { at, rc: 0 }),
+            Glance::Unseen => self.next_by_case(deck, unit, state),
         }
-    }
-
-    // Whether a unit that goes on with its card waits there.
-    #[tactic(auto, using(crate::proofs::Normal::waits_for_event, crate::proofs::Normal::waits_for_task))]
-    #[inline(always)]
-    fn waits_at_its_card(&self, deck: &Deck, unit: u16, state: &UnitOfWork) -> bool
-        requires state { state.now ≡ unit_at unit self.now.units }
-        requires normal { runs_normally state.now ≡ true }
-        ensures value { result ≡ waits_by deck.now self.now unit (op_here deck.now state.now.core) }
-        ensures none { result ≡ true
-            → next_unit deck.now (core_at unit self.now) (surroundings deck.now self.now unit)
-            ≡ None }
-    {
-        match state.card_here(deck, &Op::Return) {
-            Op::Wait { event } => has_to_wait(deck, unit, state, self.tree.event_posted(*event)),
-            Op::WaitTask { unit: task } => has_to_wait(deck, unit, state, self.tree.ended(*task)),
-            _ => false,
-        }
-    }
-
-    // Whether a unit that lives waits at its card.
-    #[inline(always)]
-    fn waits(&self, deck: &Deck, unit: u16) -> bool
-        ensures value { result ≡ waits deck.now self.now unit }
-        ensures none { result ≡ true
-            → next_unit deck.now (core_at unit self.now) (surroundings deck.now self.now unit)
-            ≡ None }
-    {
-        match self.units.get(unit as usize) {
-            None => false,
-            Some(state) => state.runs_normally() && self.waits_at_its_card(deck, unit, state),
-        }
-    }
-
-    /// Whether it is seen at a glance that the unit of that number has no next entry: it doesn't live, it waits at its card, or
-    /// memory end decides. Who tries units in turns skips it so; of others `next` has to be asked.
-    pub fn is_idle(&self, deck: &Deck, unit: u16) -> bool
-        ensures value { result ≡ is_idle deck.now self.now unit }
-        ensures none { result ≡ true → next deck.now self.now unit ≡ None }
-    {
-        if unit == deck.unit_count() {
-            return self.memory_end.is_none();
-        }
-        self.memory_end.is_some() || !self.tree.living(unit) || self.waits(deck, unit)
     }
 
     // The next entry of the unit of that number, where it lives and memory end hasn't begun.

@@ -7,7 +7,7 @@ ghost use Rattle.rtm_model.specs.OwnChange.{own_change};
 ghost use Rattle.rtm_model.specs.Advance.{purged_core};
 ghost use Rattle.rtm_model.specs.Chains.{inherited_estais};
 ghost use Rattle.rtm_cards.specs.Limits.{most_units};
-ghost use Rattle.rtm_model.specs.Limits.{words};
+ghost use Rattle.rtm_model.specs.Limits.{most_estais, words};
 ghost use Rattle.rtm_model.specs.World.{Core, at_birth, on_unit, unborn_unit, unit_at};
 ghost use Rattle.rtm_model.specs.Tasks.{Tree, life_of};
 ghost use Rattle.rtm_system_world.specs.Posting.{post_if_subtask};
@@ -75,8 +75,8 @@ pub(crate) fn be_born_at(units: &mut Vec<UnitOfWork>, unit: u16, born: u32, prog
     units[unit as usize].be_born(born, prog);
 }
 
-/// A task is born, a subtask of that unit: it has the ESTAI routine that its own ATTACHX names, if it names one, and those
-/// of the unit that attaches it.
+/// A task is born, a subtask of that unit: it has the ESTAI routine that its own ATTACHX names, if it names one, and
+/// those of the unit that attaches it.
 pub(crate) fn be_attached_at(
     units: &mut Vec<UnitOfWork>,
     unit: u16,
@@ -90,7 +90,7 @@ pub(crate) fn be_attached_at(
     requires other { unit ≡ mother → ⊥ }
     requires unborn { unit_at unit units.old.items ≡ unborn_unit }
     requires room { length
-        (inherited_estais own (Core.estais (unit_at mother units.old.items).core)) ≤ 63 }
+        (inherited_estais own (Core.estais (unit_at mother units.old.items).core)) ≤ most_estais }
     ensures { units.new.items
         ≡ on_unit unit
         (at_birth born prog (inherited_estais own (Core.estais (unit_at mother units.old.items).core)))

@@ -42,7 +42,8 @@ impl Model for World {
     } };
 
     // The holdings know of as many units as they have lists, but for the master's.
-    ghost invariant = { λ a. length (HoldsView.owners a.holdings) ≡ HoldsView.units a.holdings + 1 };
+    ghost invariant = { λ a. length (HoldsView.owners a.holdings)
+        ≡ HoldsView.units a.holdings + 1 };
 }
 
 impl World {
@@ -70,7 +71,8 @@ impl World {
     /// Whether the target of a command has begun to end, has ended or was purged, or memory end has begun.
     pub fn is_gone(&self, target: u16) -> bool
         ensures { result
-            ≡ (has_ended (life_of target (Tree.lives self.now.tree)) || is_some (Core.begun (core_at target self.now)) || is_some self.now.memory_end) }
+            ≡ (has_ended (life_of target (Tree.lives self.now.tree))
+            || is_some (Core.begun (core_at target self.now)) || is_some self.now.memory_end) }
     {
         self.tree.ended(target) || self.has_begun(target) || self.memory_end.is_some()
     }

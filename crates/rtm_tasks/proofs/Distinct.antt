@@ -2,22 +2,17 @@
 use Rattle.std.proofs.Common.{◌≡◌, ℕ, ◌<◌, ◌≤◌, Bool, true, false, ◌||◌, List, [], ◌∷◌, ◌++◌, length, refl, sym, subst, arith}
 use Rattle.std.specs.Prelude.{eqb, reverse}
 use Rattle.std.specs.List.{list_any, AllByRecursion, IsDistinct}
-use Rattle.std.proofs.lemmas.Bool.{eqb-true}
+use Rattle.std.proofs.lemmas.Bool.{eqb-true, or_parts}
 use Rattle.std.proofs.lemmas.List.{length-reverse, reverse-append}
 use Rattle.std.proofs.lemmas.Map.Keys.{IsDistinct-cons}
 use Rattle.std.proofs.lemmas.Map.Steps.{length-le_from_distinct_below}
 use Rattle.rtm_model.specs.Tasks.{is_posted}
 use Rattle.rtm_tasks.specs.EventList.{AreEvents}
 
--- neither of two tests passes where one of them was asked for
-neither : (a b : Bool) → (a || b) ≡ false → (a ≡ false) × (b ≡ false)
-neither true b e = absurd cc
-neither false b e = (refl, e)
-
 not_there : (event : ℕ) (events : List ℕ) → list_any (λ posted. eqb event posted) events ≡ false → AllByRecursion (λ y. eqb event y ≡ false) events
 not_there event [] e = tt
 not_there event (y ∷ ys) e =
-    let parts : (eqb event y ≡ false) × (list_any (λ posted. eqb event posted) ys ≡ false) = neither (eqb event y) (list_any (λ posted. eqb event posted) ys) e in
+    let parts : (eqb event y ≡ false) × (list_any (λ posted. eqb event posted) ys ≡ false) = or_parts (eqb event y) (list_any (λ posted. eqb event posted) ys) e in
     (parts.0, not_there event ys parts.1)
 
 among : (q y : ℕ) (ys : List ℕ) (t : Bool) → eqb q y ≡ t → y < 256 → (list_any (eqb q) ys ≡ true → q < 256) → (t || list_any (eqb q) ys) ≡ true → q < 256

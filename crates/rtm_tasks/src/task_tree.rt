@@ -15,9 +15,9 @@ use std::marker::Model;
 
 /// Which units live and who attached them, and which events are posted.
 ///
-/// A contract sees the lives of the units, by number and without the master's, and the events, the one first that was posted
-/// last. Units are numbered from 0, in the order of their cards. A number past the last unit's is that of a dormant unit, which
-/// is never born.
+/// A contract sees the lives of the units, by number and without the master's, and the events, the one first that was
+/// posted last. Units are numbered from 0, in the order of their cards. A number past the last unit's is that of a
+/// dormant unit, which is never born.
 #[derive(Drop)]
 pub struct TaskTree {
     lives: Vec<UnitLife>,
@@ -211,8 +211,8 @@ fn end(lives: &mut Vec<UnitLife>, subtasks: &mut Vec<usize>, unit: u16)
 }
 
 impl TaskTree {
-    /// The units of the deck before the first entry: the job step task, which is the first task, lives, and all others are
-    /// dormant. No event is posted.
+    /// The units of the deck before the first entry: the job step task, which is the first task, lives, and all
+    /// others are dormant. No event is posted.
     pub fn new(alloc: Global, deck: &Deck) -> Result<TaskTree, NoMemory>
         ensures { IfOk result (λ tree. tree ≡ tree_at_start deck.now) }
     {
@@ -240,7 +240,8 @@ impl TaskTree {
         self.lives.len()
     }
 
-    /// ATTACHX: a dormant unit is born, a subtask of the unit of the number `mother`. `NotDormant` where it was born before.
+    /// ATTACHX: a dormant unit is born, a subtask of the unit of the number `mother`. `NotDormant` where it was born
+    /// before.
     pub fn attach(&mut self, mother: u16, unit: u16) -> Result<(), NotDormant>
         requires in_range { mother < length self.old.lives }
         ensures which { IsErr result ↔ (is_dormant (life_of unit self.old.lives) ≡ false) }
@@ -275,8 +276,8 @@ impl TaskTree {
         end(&mut self.lives, &mut self.subtasks, unit);
     }
 
-    /// The number of the task that attached the unit, whether it still lives or not. None for a unit that no task attached:
-    /// a dormant one, the job step task, an SRB.
+    /// The number of the task that attached the unit, whether it still lives or not. None for a unit that no task
+    /// attached: a dormant one, the job step task, an SRB.
     pub fn mother(&self, unit: u16) -> Option<u16>
         ensures { result ≡ mother_of (life_of unit self.now.lives) }
     {

@@ -23,7 +23,8 @@ fn source(alloc: Global, deck: &str, fail: &[u32]) -> Result<MemSource, AllocErr
     ))
 }
 
-/// Runs the program with a word on a deck, with calls of the source and of the sink that fail, and compares what it answers.
+/// Runs the program with a word on a deck, with calls of the source and of the sink that fail, and compares what it
+/// answers.
 pub fn is_answered(
     rt: &(impl Abort + AllocGlobal),
     word: &str,

@@ -112,7 +112,8 @@ fn decks_of_each_kind_are_run(rt: HostRuntime) -> Result<(), Fail> {
     Ok(())
 }
 
-// Wherever the command arrives, the abort lands where it may, and the task ends by it. With AT=19 the run is over before.
+// Wherever the command arrives, the abort lands where it may, and the task ends by it. With AT=19 the run is over
+// before.
 #[test]
 fn a_cancel_lands_at_every_point(rt: HostRuntime) -> Result<(), Fail> {
     let alloc = rt.alloc();

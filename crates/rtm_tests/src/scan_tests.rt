@@ -270,8 +270,8 @@ fn wrong_cards_are_named(rt: HostRuntime) -> Result<(), Fail> {
     Ok(())
 }
 
-// A card of 80 bytes may stand, and one of 81 may not, also as the last, without a line feed. An input of a byte too many is
-// too long, whatever it says.
+// A card of 80 bytes may stand, and one of 81 may not, also as the last, without a line feed. An input of a byte too
+// many is too long, whatever it says.
 #[test]
 fn lengths_are_kept(rt: HostRuntime) -> Result<(), Fail> {
     let alloc = rt.alloc();

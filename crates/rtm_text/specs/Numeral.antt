@@ -2,8 +2,8 @@
 use Rattle.std.specs.Prelude.{ℕ, zero, suc, ◌/◌, ◌%◌, nat_lt, if◌then◌else◌, List, [], ◌∷◌, ◌++◌}
 use Rattle.rtm_text.specs.Digits.{digit_char}
 
--- The digits of a number in a base, without leading zeros: those of the number without its last digit, of which there are
--- at most `others`, and its last digit.
+-- The digits of a number in a base, without leading zeros: those of the number without its last digit, of which there
+-- are at most `others`, and its last digit.
 abbrev pub numeral : ℕ → ℕ → ℕ → List ℕ
 numeral base zero n = digit_char (n % base) ∷ []
 numeral base (suc others) n =

@@ -53,7 +53,8 @@ pub fn character(digit: u32) -> u8
 pub fn push_decimal(out: &mut Vec<u8>, number: u64) -> Result<(), NoMemory>
     ensures digits { OnOk result (out.new.items ≡ out.old.items ++ decimal number) }
     // The same, where it has at most ten digits.
-    ensures ten { number < 10 ^ 10 → OnOk result (out.new.items ≡ out.old.items ++ decimal_of number) }
+    ensures ten { number < 10 ^ 10
+        → OnOk result (out.new.items ≡ out.old.items ++ decimal_of number) }
 {
     let mut buffer = Buffer::new();
     push_bytes(out, buffer.format(number).as_bytes())

@@ -23,8 +23,8 @@ IsAnswer (requests.Load tasks) bytes answer = IsLoadOf tasks answer
 abbrev pub IsDue : Request → Option (List ℕ) → AnswerView → Type 0
 IsDue request left answer = (bytes : List ℕ) × IfSome left (λ told. bytes ≡ told) × IsAnswer request bytes answer
 
--- a call of the program: what the source had left, the faults that source and sink had counted before and have now, and what
--- was written before and is now
+-- a call of the program: what the source had left, the faults that source and sink had counted before and have now,
+-- and what was written before and is now
 pub record Call : Type 0 where
   pub left : Option (List ℕ)
   pub source_before : ℕ
@@ -75,8 +75,8 @@ Says request call s =
 abbrev pub IsUnread : ℕ → ℕ → Status → Type 0
 IsUnread before now s = ((s ≡ status.Read) × HasRisen before now) ⊎ ((s ≡ status.Memory) × (now ≡ before))
 
--- How the writing of an answer went: all of it is written and the status is its own, or the sink failed and a prefix is. The
--- numbers are the sink's faults before and now.
+-- How the writing of an answer went: all of it is written and the status is its own, or the sink failed and a prefix
+-- is. The numbers are the sink's faults before and now.
 abbrev pub IsSent : AnswerView → ℕ → ℕ → Option (List ℕ) → Option (List ℕ) → Status → Type 0
 IsSent answer before now written_before written_now s =
     ((s ≡ answer.status) × Appends written_before written_now answer.text × (now ≡ before))

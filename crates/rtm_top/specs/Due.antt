@@ -1,5 +1,5 @@
--- Which status is due: by the words, and by what the source had left (this profile). Each is an implication: it says which
--- status comes where something is so of the bytes.
+-- Which status is due: by the words, and by what the source had left (this profile). Each is an implication: it says
+-- which status comes where something is so of the bytes.
 use Rattle.std.specs.Prelude.{List, None, Option, Some, ℕ, ◌≡◌}
 use Rattle.rtm_io.specs.Faults.{HasRisen}
 use Rattle.rtm_deck_items.specs.Faults.{IsFirstFault}

@@ -44,7 +44,8 @@ fn load_of(number: &RtmWord) -> Option<Request>
 
 // The number from 1 to 60 that the text is, without leading zeros.
 fn number_of(text: &[u8]) -> Option<u8>
-    ensures { MatchOption result (IsNoLoad text.now) (λ n. (1 ≤ n) × (n ≤ 60) × (text.now ≡ decimal n)) }
+    ensures { MatchOption result (IsNoLoad text.now)
+        (λ n. (1 ≤ n) × (n ≤ 60) × (text.now ≡ decimal n)) }
 {
     'numbers: for number in 1..61 {
         if is_decimal(text, number) {

@@ -115,13 +115,13 @@ fn write_answer<K: Sink>(out: &mut K, answer: &Answer) -> Status
 }
 
 /// Does what the words say, and nothing else: `scan` reads a deck from the source and writes its canonical text, `seq`
-/// runs it on one thread and writes its trace; `verify` reads a deck and the trace that follows it, and judges the trace;
-/// `load n` runs a deck that is made of n tasks, 1 to 60, and writes how many entries and releases its run has. It reads
-/// nothing.
+/// runs it on one thread and writes its trace; `verify` reads a deck and the trace that follows it, and judges the
+/// trace; `load n` runs a deck that is made of n tasks, 1 to 60, and writes how many entries and releases its run
+/// has. It reads nothing.
 ///
 /// An input that spells no deck is refused with its first fault; one of more than 16,777,216 bytes is too long. Of a
-/// trace the first bad line is named, else the first entry that may not stand where it does with the one that was wanted,
-/// else the end where it is another than stated.
+/// trace the first bad line is named, else the first entry that may not stand where it does with the one that was
+/// wanted, else the end where it is another than stated.
 pub fn plain_words<S: Source, K: Sink>(
     alloc: Global,
     words: &[RtmWord],
@@ -134,7 +134,8 @@ pub fn plain_words<S: Source, K: Sink>(
     ensures sink { result.status ≡ Status.Words → out.new ≡ out.old }
 
     // A load reads nothing.
-    ensures load { (tasks : ℕ) → IsRequest (Request.Load tasks) → words.now ≡ words_of (Request.Load tasks)
+    ensures load { (tasks : ℕ) → IsRequest (Request.Load tasks)
+        → words.now ≡ words_of (Request.Load tasks)
         → src.new ≡ src.old }
 
     // Where the source failed or memory is wanting, the sink is as it was.
@@ -146,8 +147,8 @@ pub fn plain_words<S: Source, K: Sink>(
     ensures later { S.faults src.old ≤ S.faults src.new }
     ensures sink_later { K.faults out.old ≤ K.faults out.new }
 
-    // What the status says of what was read and written, and that it is the one that is due where no count of faults rose
-    // and memory isn't refused.
+    // What the status says of what was read and written, and that it is the one that is due where no count of faults
+    // rose and memory isn't refused.
     ensures answer { AnswersWords words.now (record {
       left = S.left src.old;
       source_before = S.faults src.old;

@@ -5,3 +5,7 @@ pub mod Scan
 pub mod Status
 pub mod Verify
 pub mod View
+pub use Rattle.rtm_cards.specs.Limits
+pub use Rattle.rtm_model.specs.Fits
+pub use Rattle.rtm_model.specs.Legal
+pub use Rattle.rtm_model.specs.Turns

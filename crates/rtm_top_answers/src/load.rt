@@ -49,8 +49,8 @@ fn counted_answer(alloc: Global, tasks: u8, entries: &[Entry], end: End) -> Resu
     })
 }
 
-/// What is to be written of the deck that is made of so many tasks, 1 to 60, once it has run: the numbers of its entries and
-/// of its releases, and its end.
+/// What is to be written of the deck that is made of so many tasks, 1 to 60, once it has run: the numbers of its
+/// entries and of its releases, and its end.
 #[tactic(auto, using(crate::proofs::Answers::load_of))]
 pub fn load_answer(alloc: Global, tasks: u8) -> Result<Answer, NoMemory>
     requires least { 1 ≤ tasks }

@@ -162,8 +162,8 @@ fn trace_answer(alloc: Global, deck: &Deck, bytes: &[u8]) -> Result<Answer, NoMe
     }
 }
 
-/// What is to be written of an input under the word `verify`: the first fault of its deck, else the first bad line of the
-/// trace behind it, else its judgement. The input has at most 16,777,216 bytes.
+/// What is to be written of an input under the word `verify`: the first fault of its deck, else the first bad line of
+/// the trace behind it, else its judgement. The input has at most 16,777,216 bytes.
 #[tactic(auto, using(crate::proofs::Answers::verified_deck, crate::proofs::Answers::verified_fault))]
 pub fn verify_answer(alloc: Global, bytes: &[u8]) -> Result<Answer, NoMemory>
     requires { length bytes.now ≤ most_bytes }

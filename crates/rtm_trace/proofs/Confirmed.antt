@@ -1,6 +1,6 @@
 -- The entry of a line: it fits, and the line is its own.
-use Rattle.std.proofs.Common.{◌≡◌, ℕ, ◌+◌, ◌^◌, ◌<◌, Bool, true, false, ◌&&◌, leb, ltb, List, length, Option, Some, None, refl, ap, sym, subst, ◌∙◌}
-use Rattle.std.specs.Prelude.{codes, decimal, IsTrue, bytes_eq, if◌then◌else◌}
+use Rattle.std.proofs.Common.{◌≡◌, ℕ, ◌+◌, ◌^◌, ◌<◌, Bool, true, false, ◌&&◌, leb, ltb, List, [], ◌∷◌, length, Option, Some, None, refl, ap, sym, subst, ◌∙◌}
+use Rattle.std.specs.Prelude.{codes, decimal, find, IsTrue, bytes_eq, if◌then◌else◌}
 use Rattle.std.specs.List.{list_all}
 use Rattle.std.proofs.lemmas.Bool.{and_parts, and_from, lt-ltb, le-leb, leb-true, ltb-true}
 use Rattle.std.proofs.lemmas.Option.{option_and_then_some, same_Some}
@@ -24,8 +24,8 @@ use Rattle.rtm_model.specs.inner.Soundness.{IsPlace, IsReason}
 use Rattle.rtm_model.specs.Fits.{Fits, WhatFits, VerdictFits}
 use Rattle.rtm_trace.specs.Text.{line_text, end_line}
 use Rattle.rtm_trace.specs.Lines.{IsEntryLine, IsEndLine}
-use Rattle.rtm_trace.specs.Words.{word_of, names_of, end_in}
-use Rattle.rtm_trace.specs.Reading.{is_place, is_reason, is_mark, verdict_fits, what_fits, fits, confirmed_entry, entry_on, line_in}
+use Rattle.rtm_trace.specs.inner.Words.{word_of, names_of, ends, end_in}
+use Rattle.rtm_trace.specs.inner.Reading.{is_place, is_reason, is_mark, verdict_fits, what_fits, fits, confirmed_entry, entry_on, line_in}
 use Rattle.rtm_trace.proofs.Cuts.{word_of-text}
 use Rattle.rtm_trace.proofs.Numbers.{is_low, low_decimal, plain_decimal}
 use Rattle.rtm_trace.proofs.Entries.{line_read, line_laid}
@@ -150,23 +150,17 @@ none_found d w n line small none h =
     absurd cc
 
 -- The ends.
+-- what a look-up finds passes its test
+passes_by : {X : Type 0} (test : X → Bool) (rest : Option X) (x y : X) (t : Bool) → test x ≡ t → (if t then Some x else rest) ≡ Some y → (rest ≡ Some y → test y ≡ true) → test y ≡ true
+passes_by test rest x y true is found more = ap test (sym (same_Some x y found)) ∙ is
+passes_by test rest x y false is found more = more found
+
+passes : {X : Type 0} (test : X → Bool) (xs : List X) (y : X) → find test xs ≡ Some y → test y ≡ true
+passes test [] y e = absurd cc
+passes test (x ∷ xs) y e = passes_by test (find test xs) x y (test x) refl e (passes test xs y)
+
 pub end_found : (line : List ℕ) (end : End) → end_in line ≡ Some end → line ≡ end_line end
-end_found line end h = go (bytes_eq line (end_line Ended)) refl
-  where
-    third : (t : Bool) → bytes_eq line (end_line Limit) ≡ t → (if t then Some Limit else None) ≡ Some end → line ≡ end_line end
-    third true e h = (bytes_eq-Decides line (end_line Limit)).0 e ∙ ap end_line (same_Some Limit end h)
-    third false e h = absurd cc
-
-    second : (t : Bool) → bytes_eq line (end_line Stalled) ≡ t → (if t then Some Stalled else (if bytes_eq line (end_line Limit) then Some Limit else None)) ≡ Some end → line ≡ end_line end
-    second true e h = (bytes_eq-Decides line (end_line Stalled)).0 e ∙ ap end_line (same_Some Stalled end h)
-    second false e h = third (bytes_eq line (end_line Limit)) refl h
-
-    first : (t : Bool) → bytes_eq line (end_line Ended) ≡ t → (if t then Some Ended else (if bytes_eq line (end_line Stalled) then Some Stalled else (if bytes_eq line (end_line Limit) then Some Limit else None))) ≡ Some end → line ≡ end_line end
-    first true e h = (bytes_eq-Decides line (end_line Ended)).0 e ∙ ap end_line (same_Some Ended end h)
-    first false e h = second (bytes_eq line (end_line Stalled)) refl h
-
-    go : (t : Bool) → bytes_eq line (end_line Ended) ≡ t → line ≡ end_line end
-    go t e = first (bytes_eq line (end_line Ended)) refl h
+end_found line end h = sym ((bytes_eq-Decides (end_line end) line).0 (passes (λ e. bytes_eq (end_line e) line) ends end h))
 
 pub found_end : (end : End) → end_in (end_line end) ≡ Some end
 found_end Ended = refl

@@ -3,7 +3,7 @@ use Rattle.std.proofs.Common.{◌≡◌, ℕ, Bool, true, not, eqb, List, [], �
 use Rattle.std.specs.List.{list_all}
 use Rattle.std.proofs.lemmas.Bool.{and_parts, and_from, not-true}
 use Rattle.std.proofs.lemmas.Bool.Decides.{nat_tests}
-use Rattle.rtm_trace.specs.Words.{front, back, is_inner, word_of, rest_of, before, behind}
+use Rattle.rtm_trace.specs.inner.Words.{front, back, is_inner, word_of, rest_of, before, behind}
 
 -- the text is at its end, or goes on with a byte that fails the test
 abbrev pub stops : (ℕ → Bool) → List ℕ → Bool

@@ -20,8 +20,8 @@ use Rattle.rtm_model.specs.declared.reg.Kind.{Kind}
 use Rattle.rtm_model.specs.inner.Applies.{IsMark}
 use Rattle.rtm_model.specs.Fits.{Fits, WhatFits}
 use Rattle.rtm_trace.specs.Text.{unit_text, place_text, reason_text, flag_text, mark_text, kind_text, class_text, res_text, fate_text, posted_text, verdict_text, what_text, entry_text, line_text}
-use Rattle.rtm_trace.specs.Words.{word_of, rest_of, behind, number_in, names_of, NamesView, kind_in, class_in, res_in, fate_in}
-use Rattle.rtm_trace.specs.Reading.{unit_in, place_in, index_in, flag_in, behind_flag, mark_in, fate_behind, behind_fate, verdict_in, behind_verdict, exec_in, error_in, land_in, enter_in, leave_in, arrive_in, begin_in, release_in, done_in, purge_in, what_in, line_in}
+use Rattle.rtm_trace.specs.inner.Words.{word_of, rest_of, behind, number_in, names_of, NamesView, kind_in, class_in, res_in, fate_in}
+use Rattle.rtm_trace.specs.inner.Reading.{unit_in, place_in, index_in, flag_in, behind_flag, mark_in, fate_behind, behind_fate, verdict_in, behind_verdict, exec_in, error_in, land_in, enter_in, leave_in, arrive_in, begin_in, release_in, done_in, purge_in, what_in, line_in}
 use Rattle.rtm_trace.proofs.Cuts.{plain, ends_word, word_of-text, rest_of-text}
 use Rattle.rtm_trace.proofs.Numbers.{number_in-decimal, plain_decimal}
 use Rattle.rtm_trace.proofs.Parts.{kind_read, kind_plain, class_read, class_plain, res_read, res_plain, fate_read, fate_plain, leave_tail, leave_end, logrec_read, leave_dump_read, begin_tail, begin_end, dump_read, done_tail, done_end, task_read, step_read, plain_code, code_read, bare_tail, mark_tail, mark_read, unit_plain, unit_read, place_plain, place_read, verdict_read, verdict_behind}
@@ -142,7 +142,7 @@ module _ (d : DeckView) (w : IsTrue (is_well_formed d)) where
       ap (what_in (names_of d) (length d.units)) (in_seven (codes "LAND ") (class_text class) (codes " ") (decimal from) (codes " ") (mark_text mark) (10 ∷ []))
       ∙ land_by _ (class_text class) rest (decimal from) more class from mark
       (cut_blank (class_text class) rest (class_plain class)) (cut_blank (decimal from) more (plain_decimal from (index_wide from small)))
-      (class_read class) (number_in-decimal 4294967296 from (index_wide from small) small) (mark_found mark false h.1)
+      (class_read class) (number_in-decimal 4294967296 from small small) (mark_found mark false h.1)
   what_read (Enter kind reg mark bare) h =
       let small : reg < 4294967296 = h.0 in
       let more = mark_text mark ++ bare_tail bare in
@@ -150,7 +150,7 @@ module _ (d : DeckView) (w : IsTrue (is_well_formed d)) where
       ap (what_in (names_of d) (length d.units)) (in_eight (codes "ENTER ") (kind_text kind) (codes " ") (decimal reg) (codes " ") (mark_text mark) (flag_text bare (codes " NOSDWA")) (10 ∷ []))
       ∙ enter_by _ (kind_text kind) rest (decimal reg) more kind reg mark bare
       (cut_blank (kind_text kind) rest (kind_plain kind)) (cut_blank (decimal reg) more (plain_decimal reg (index_wide reg small)))
-      (kind_read kind) (number_in-decimal 4294967296 reg (index_wide reg small) small) (mark_found mark bare h.1)
+      (kind_read kind) (number_in-decimal 4294967296 reg small small) (mark_found mark bare h.1)
   what_read (Leave kind reg verdict logrec dump) h =
       let small : reg < 4294967296 = h.0 in
       let tail = leave_tail logrec dump in
@@ -161,7 +161,7 @@ module _ (d : DeckView) (w : IsTrue (is_well_formed d)) where
       (in_nine (codes "LEAVE ") (kind_text kind) (codes " ") (decimal reg) (codes " ") (verdict_text d verdict) (flag_text logrec (codes " LOGREC")) (flag_text dump (codes " DUMP")) (10 ∷ []))
       ∙ leave_by (names_of d) _ (kind_text kind) rest (decimal reg) more (drop 1 tail) kind reg verdict logrec dump
       (cut_blank (kind_text kind) rest (kind_plain kind)) (cut_blank (decimal reg) more (plain_decimal reg (index_wide reg small)))
-      (kind_read kind) (number_in-decimal 4294967296 reg (index_wide reg small) small)
+      (kind_read kind) (number_in-decimal 4294967296 reg small small)
       (verdict_read d w verdict tail h.1 end) (verdict_behind d w verdict tail h.1 end) (logrec_read logrec dump) (leave_dump_read logrec dump)
   what_read (Arrive cmd fate) h =
       let few = (limits d w).commands in

@@ -2,7 +2,7 @@
 use Rattle.std.proofs.Common.{◌≡◌, ℕ, zero, suc, ◌+◌, ◌<◌, ◌≤◌, Bool, true, false, eqb, List, [], ◌∷◌, length, take, drop, Option, Some, None, refl, ap, subst, arith}
 use Rattle.std.proofs.lemmas.Bool.{eqb-true}
 use Rattle.memchr.specs.Find.{IsFirstByte, NoneBefore, Nowhere, Passes, is_byte}
-use Rattle.rtm_trace.specs.Words.{first_of, after_of}
+use Rattle.rtm_trace.specs.inner.Words.{first_of, after_of}
 
 -- so many bytes are the first line
 pub record IsFirstLine (text : List ℕ) (n : ℕ) : Type 0 where

@@ -3,8 +3,8 @@ use Rattle.std.proofs.Common.{◌≡◌, ℕ, ◌+◌, ◌<◌, Bool, true, fals
 use Rattle.rtm_model.specs.declared.entry.Entry.{Entry}
 use Rattle.rtm_model.specs.declared.entry.End.{End}
 use Rattle.rtm_trace.specs.Lines.{text_lines}
-use Rattle.rtm_trace.specs.Reading.{trace_at_end}
-use Rattle.rtm_trace.specs.Words.{first_of, after_of}
+use Rattle.rtm_trace.specs.inner.Reading.{trace_at_end}
+use Rattle.rtm_trace.specs.inner.Words.{first_of, after_of}
 
 -- the lines where the first byte ends one or not
 one_byte : (b : ℕ) (t : Bool) → eqb b 10 ≡ t → text_lines (b ∷ []) ≡ first_of (b ∷ []) ∷ text_lines (after_of (b ∷ []))

@@ -1,7 +1,6 @@
 pub mod Front
 pub mod FirstLine
 pub mod Feeds
-pub mod Products
 pub mod Cuts
 pub mod Numbers
 pub mod Lookups
@@ -13,3 +12,5 @@ pub mod Places
 pub mod TraceLaws
 pub mod Replies
 pub mod Remembered
+pub mod Pieces
+pub mod LabelLaws

@@ -13,10 +13,9 @@ use Rattle.rtm_deck_items.specs.View.{ProgramView, DeckView}
 use Rattle.rtm_deck_items.specs.WellFormed.{is_well_formed, are_distinct, is_program_of, is_unit_of}
 use Rattle.rtm_deck_items.proofs.FormFacts.{conditions, limits}
 use Rattle.rtm_deck_items.proofs.Lists.{at_from_list_all, both_true}
-use Rattle.rtm_deck_operands.specs.Name.{trimmed_text, is_padded_name}
-use Rattle.rtm_deck_operands.specs.Reading.{name_in}
+use Rattle.rtm_deck_operands.specs.Name.{trimmed_text, is_padded_name, name_in}
 use Rattle.rtm_deck_operands.proofs.Names.{padded_parts, name_parts}
-use Rattle.rtm_trace.specs.Words.{put_name, put_names, number_of_name, is_inner}
+use Rattle.rtm_trace.specs.inner.Words.{put_name, put_names, number_of_name, is_inner}
 use Rattle.rtm_trace.proofs.Cuts.{plain, lacks, each_test}
 
 same_eq : (a : List ℕ) → bytes_eq a a ≡ true

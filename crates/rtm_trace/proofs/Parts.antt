@@ -29,8 +29,8 @@ use Rattle.rtm_model.specs.inner.Applies.{IsMark}
 use Rattle.rtm_model.specs.inner.Soundness.{IsPlace}
 use Rattle.rtm_model.specs.Fits.{VerdictFits}
 use Rattle.rtm_trace.specs.Text.{unit_text, place_text, reason_text, reason_digits, flag_text, kind_text, class_text, res_text, fate_text, posted_text, verdict_text}
-use Rattle.rtm_trace.specs.Words.{is_inner, word_of, rest_of, names_of, kind_in, class_in, res_in, fate_in, NamesView}
-use Rattle.rtm_trace.specs.Reading.{unit_in, place_in, flag_in, behind_flag, reason_in, mark_of_flags, mark_behind_reason, mark_behind_code, mark_in, fate_behind, behind_fate, plain_verdict, verdict_in, behind_verdict}
+use Rattle.rtm_trace.specs.inner.Words.{is_inner, word_of, rest_of, names_of, kind_in, class_in, res_in, fate_in, plain_verdict, NamesView}
+use Rattle.rtm_trace.specs.inner.Reading.{unit_in, place_in, flag_in, behind_flag, reason_in, mark_of_flags, mark_behind_reason, mark_behind_code, mark_in, fate_behind, behind_fate, verdict_in, behind_verdict}
 use Rattle.rtm_trace.proofs.Cuts.{plain, ends_word, word_of-text, rest_of-text, before-text, behind-text, test_append}
 use Rattle.rtm_trace.proofs.Numbers.{number_in-decimal, plain_decimal, number_in-reason, plain_reason}
 use Rattle.rtm_trace.proofs.Lookups.{UnitFact, unit_fact, ProgramFact, program_fact, plain_name, no_point, no_asterisk}

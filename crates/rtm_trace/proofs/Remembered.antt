@@ -1,15 +1,16 @@
 -- What is remembered of lines that were read.
-use Rattle.std.proofs.Common.{◌≡◌, ℕ, zero, suc, ◌^◌, ◌<◌, List, [], ◌∷◌, ◌++◌, Option, Some, None, sym, ap, subst, ◌∙◌}
-use Rattle.std.specs.Prelude.{IsTrue, codes, slice_index_or, slice_set}
+use Rattle.std.proofs.Common.{◌≡◌, ℕ, zero, suc, ◌+◌, ◌^◌, ◌<◌, true, false, List, [], ◌∷◌, ◌++◌, length, take, drop, Option, Some, None, IfSome, Bor, sym, ap, subst, ◌∙◌}
+use Rattle.std.specs.Prelude.{MatchOption, IsTrue, bytes_eq, codes, slice_index_or, slice_set}
 use Rattle.std.specs.List.{AllByRecursion}
-use Rattle.std.proofs.lemmas.List.{append_assoc}
+use Rattle.std.proofs.lemmas.List.{append_assoc, take-append-drop}
+use Rattle.std.proofs.lemmas.Slice.Eq.{bytes_eq-Decides}
 use Rattle.rtm_deck_items.specs.View.{DeckView}
 use Rattle.rtm_deck_items.specs.WellFormed.{is_well_formed}
 use Rattle.rtm_model.specs.declared.entry.Entry.{Entry}
 use Rattle.rtm_model.specs.declared.entry.What.{What}
 use Rattle.rtm_trace.specs.declared.known.Known.{Known}
-use Rattle.rtm_trace.specs.Known.{AreKnown, IsBehindUnit, IsKnown, IsSaid, index_part, unit_part, what_part}
-use Rattle.rtm_trace.specs.Reading.{entry_on}
+use Rattle.rtm_trace.specs.inner.Known.{AreKnown, IsBehindUnit, IsKnown, IsSaid, index_part, unit_part, what_part}
+use Rattle.rtm_trace.specs.inner.Reading.{entry_on}
 use Rattle.rtm_trace.specs.Text.{line_text, what_text}
 use Rattle.rtm_trace.proofs.Confirmed.{found_entry}
 
@@ -25,6 +26,15 @@ pub all_set : {X : Type 0} (P : X → Type 0) (xs : List X) (i : ℕ) (x : X) �
 all_set P [] i x all h = tt
 all_set P (y ∷ ys) zero x all h = (h, all.1)
 all_set P (y ∷ ys) (suc i) x all h = (all.0, all_set P ys i x all.1 h)
+
+-- what is left behind a text with which a line begins
+pub stripped : (line text : List ℕ) (found : Option (Bor (List ℕ)))
+    → MatchOption found (bytes_eq (take (length text) line) text ≡ false) (λ rest. (bytes_eq (take (length text) line) text ≡ true) × (rest.now ≡ drop (length text) line) × (length rest.now + length text ≡ length line))
+    → IfSome found (λ rest. line ≡ text ++ rest.now)
+stripped line text None h = tt
+stripped line text (Some rest) h =
+    let front : take (length text) line ≡ text = (bytes_eq-Decides (take (length text) line) text).0 h.0 in
+    sym (take-append-drop (length text) line) ∙ ap (λ (t : List ℕ). t ++ drop (length text) line) front ∙ ap (λ (t : List ℕ). text ++ t) (sym h.1)
 
 -- one text behind the other
 pub behind_both : (line one rest other last : List ℕ) → line ≡ one ++ rest → rest ≡ other ++ last → line ≡ (one ++ other) ++ last

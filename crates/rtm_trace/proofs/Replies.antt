@@ -12,7 +12,7 @@ use Rattle.rtm_trace.specs.Text.{line_text, trace_text}
 use Rattle.rtm_trace.specs.View.{TraceView, trace_of}
 use Rattle.rtm_trace.specs.Lines.{IsTraceOf, IsFirstBadLine, text_lines}
 use Rattle.rtm_trace.specs.Answer.{Answered, IsFaultOf, IsThatTrace, IsThatLine, Gives}
-use Rattle.rtm_trace.specs.Reading.{read_lines}
+use Rattle.rtm_trace.specs.inner.Reading.{read_lines}
 use Rattle.rtm_trace.proofs.Shapes.{line_short}
 use Rattle.rtm_trace.proofs.TraceLaws.{trace_read, read_trace_of, read_bad_line, bad_line_read, one_trace, same_Ok, same_Err}
 

@@ -32,7 +32,7 @@ use Rattle.rtm_model.specs.inner.Soundness.{IsPlace}
 use Rattle.rtm_model.specs.Fits.{Fits, WhatFits, VerdictFits}
 use Rattle.rtm_deck_items.proofs.FormFacts.{limits}
 use Rattle.rtm_trace.specs.Text.{unit_text, place_text, reason_text, reason_digits, flag_text, mark_text, kind_text, class_text, res_text, fate_text, posted_text, verdict_text, what_text, entry_text, line_text}
-use Rattle.rtm_trace.specs.Words.{is_inner}
+use Rattle.rtm_trace.specs.inner.Words.{is_inner}
 use Rattle.rtm_trace.proofs.Cuts.{plain, lacks, test_append, each_test}
 use Rattle.rtm_trace.proofs.Numbers.{plain_decimal, plain_reason, length-reason}
 use Rattle.rtm_trace.proofs.Lookups.{unit_fact, program_fact, plain_name}

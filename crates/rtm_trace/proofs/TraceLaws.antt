@@ -14,8 +14,8 @@ use Rattle.rtm_model.specs.Fits.{Fits}
 use Rattle.rtm_trace.specs.Text.{entry_text, line_text, lines_text, end_line, trace_text}
 use Rattle.rtm_trace.specs.View.{TraceView}
 use Rattle.rtm_trace.specs.Lines.{IsTraceOf, text_lines, first_line, IsEntryLine, IsEndLine, HasEnd, IsBadLine, IsFirstBadLine}
-use Rattle.rtm_trace.specs.Words.{end_in}
-use Rattle.rtm_trace.specs.Reading.{entry_on, trace_at_end, read_line, read_on, read_lines}
+use Rattle.rtm_trace.specs.inner.Words.{end_in}
+use Rattle.rtm_trace.specs.inner.Reading.{entry_on, trace_at_end, read_line, read_on, read_lines}
 use Rattle.rtm_trace.proofs.Cuts.{lacks}
 use Rattle.rtm_trace.proofs.Confirmed.{entry_found, found_entry, none_found, end_found, found_end, no_end, entry_is_no_end, entry_no_end}
 use Rattle.rtm_trace.proofs.Shapes.{line_written, written_lacks_feed}

@@ -1,7 +1,9 @@
 pub mod Text
 pub mod View
-pub mod Known
 pub mod Lines
 pub mod Answer
-pub mod Words
-pub mod Reading
+pub mod inner
+pub use Rattle.rtm_codes.specs.Code
+pub use Rattle.rtm_deck_operands.specs.Name
+pub use Rattle.rtm_deck_items.specs.WellFormed
+pub use Rattle.rtm_model.specs.Fits

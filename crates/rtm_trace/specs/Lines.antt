@@ -40,8 +40,8 @@ MayStand d (suc n) line = IsEntryLine d n line ⊎ IsEndLine line
 abbrev pub HasEnd : List (List ℕ) → ℕ → Type 0
 HasEnd lines k = (j : ℕ) × (end : End) × (j < k) × (slice_get lines j ≡ Some (end_line end))
 
--- A line is bad where it may not stand at its place, or stands behind an end; and where there is no end, the line that is
--- wanted behind the last is bad.
+-- A line is bad where it may not stand at its place, or stands behind an end; and where there is no end, the line
+-- that is wanted behind the last is bad.
 abbrev pub IsBadLine : DeckView → List (List ℕ) → ℕ → Type 0
 IsBadLine d lines k = MatchOption (slice_get lines k)
     ((k ≡ length lines) × (HasEnd lines k → ⊥))

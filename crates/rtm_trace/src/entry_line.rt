@@ -1,14 +1,13 @@
 //! Reading the line of an entry, loosely: the reader writes what it has read again and compares.
 
 ghost use Rattle.std.specs.Prelude.{◌≡◌};
-ghost use Rattle.rtm_trace.specs.Words.{word_of};
-ghost use Rattle.rtm_trace.specs.Reading.{unit_in, place_in, index_in, flag_in, behind_flag, reason_in, mark_of_flags, mark_behind_code, mark_in, fate_behind, behind_fate, plain_verdict, verdict_in, behind_verdict, exec_in, error_in, land_in, enter_in, leave_in, arrive_in, begin_in, release_in, done_in, purge_in, what_as, what_in, entry_in, line_in};
+ghost use Rattle.rtm_trace.specs.inner.Words.{word_of};
+ghost use Rattle.rtm_trace.specs.inner.Reading.{unit_in, place_in, index_in, flag_in, behind_flag, reason_in, mark_of_flags, mark_behind_code, mark_in, fate_behind, behind_fate, verdict_in, behind_verdict, exec_in, error_in, land_in, enter_in, leave_in, arrive_in, begin_in, release_in, done_in, purge_in, what_as, what_in, entry_in, line_in};
 
 use crate::form::Form;
 use crate::names::Names;
-use crate::word::{
-    BEYOND_U32, class_in, cut_at, cut_word, fate_in, form_in, kind_in, number_in, res_in,
-};
+use crate::table::{class_in, fate_in, form_in, kind_in, plain_verdict, res_in};
+use crate::word::{BEYOND_U32, cut_at, cut_word, number_in};
 use rtm_codes::{Code, read_code};
 use rtm_model::{Entry, Fate, Mark, Place, Verdict, What};
 
@@ -123,24 +122,6 @@ fn cut_posted<'a>(key: &[u8], line: &'a [u8]) -> (Option<Fate>, &'a [u8])
         (fate, rest)
     } else {
         (fate, line)
-    }
-}
-
-fn plain_verdict(word: &[u8]) -> Option<Verdict>
-    ensures { result ≡ plain_verdict word.now }
-{
-    if word == b"PERC".as_slice() {
-        Some(Verdict::Perc)
-    } else if word == b"STOP".as_slice() {
-        Some(Verdict::Stop)
-    } else if word == b"BAD".as_slice() {
-        Some(Verdict::Bad)
-    } else if word == b"FAIL".as_slice() {
-        Some(Verdict::Fail)
-    } else if word == b"OVER".as_slice() {
-        Some(Verdict::Over)
-    } else {
-        None
     }
 }
 

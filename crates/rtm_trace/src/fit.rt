@@ -1,7 +1,7 @@
 //! Whether an entry fits a deck.
 
 ghost use Rattle.std.specs.Prelude.{◌≡◌};
-ghost use Rattle.rtm_trace.specs.Reading.{is_place, is_mark, verdict_fits, what_fits, fits};
+ghost use Rattle.rtm_trace.specs.inner.Reading.{is_place, is_mark, verdict_fits, what_fits, fits};
 
 use rtm_codes::is_in_range;
 use rtm_deck_items::Deck;

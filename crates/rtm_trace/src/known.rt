@@ -1,10 +1,11 @@
-//! What lines said that were read lately. A program that loops, or that many units run, says the same over and over, but for
-//! the index and the unit of each line: what stands behind these is known by its bytes, and needn't be read anew.
+//! What lines said that were read lately. A program that loops, or that many units run, says the same over and over,
+//! but for the index and the unit of each line: what stands behind these is known by its bytes, and needn't be read
+//! anew.
 
 ghost use Rattle.std.specs.Prelude.{◌≡◌, ◌<◌, ◌++◌, IfOk, IfSome};
 ghost use Rattle.rtm_deck_items.specs.View.{DeckView};
-ghost use Rattle.rtm_trace.specs.Known.{AreKnown, IsBehindUnit, IsSaid, index_part};
-ghost use Rattle.rtm_trace.specs.Words.{names_of};
+ghost use Rattle.rtm_trace.specs.inner.Known.{AreKnown, IsBehindUnit, IsSaid, index_part};
+ghost use Rattle.rtm_trace.specs.inner.Words.{names_of};
 
 use crate::entry_line::unit_in;
 use crate::names::Names;
@@ -72,14 +73,11 @@ pub(crate) fn remember<'a>(places: &mut Places<'a>, place: usize, bytes: &'a [u8
 }
 
 // What stands behind that text, where the line begins with it.
+#[tactic(auto, using(crate::proofs::Remembered::stripped))]
 fn behind<'a>(line: &'a [u8], text: &[u8]) -> Option<&'a [u8]>
     ensures { IfSome result (λ rest. line.now ≡ text.now ++ rest.now) }
 {
-    if line.len() < text.len() {
-        return None;
-    }
-    let (front, rest) = line.split_at(text.len());
-    if front == text { Some(rest) } else { None }
+    line.strip_prefix(text)
 }
 
 /// What stands behind the index of a line and its blank, where the index is that one. The text is room for the index.
@@ -88,7 +86,8 @@ pub(crate) fn behind_index<'a>(
     index: u64,
     text: &mut Vec<u8>,
 ) -> Result<Option<&'a [u8]>, NoMemory>
-    ensures { IfOk result (λ found. IfSome found (λ rest. line.now ≡ index_part index ++ rest.now)) }
+    ensures { IfOk result
+        (λ found. IfSome found (λ rest. line.now ≡ index_part index ++ rest.now)) }
 {
     text.clear();
     push::number(text, index)?;
@@ -109,8 +108,8 @@ fn behind_unit<'a>(deck: &Deck, unit: u16, line: &'a [u8]) -> Option<&'a [u8]>
     behind(rest, b" ")
 }
 
-/// The unit that the line begins with, and what stands behind it and its blank. The guessed one is tried before the names are
-/// searched.
+/// The unit that the line begins with, and what stands behind it and its blank. The guessed one is tried before the
+/// names are searched.
 pub(crate) fn cut_unit<'a>(
     deck: &Deck,
     names: &Names,

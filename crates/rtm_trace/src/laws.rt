@@ -15,7 +15,8 @@ ghost use Rattle.rtm_trace.specs.View.{TraceView};
 /// than 2 to the power of 64 bytes.
 pub fn texts_are_one_to_one()
     ensures { (d : DeckView) (a b : List Entry) (end other : End) → IsTrue (is_well_formed d)
-        → AllByRecursion (Fits d) a → AllByRecursion (Fits d) b → length (trace_text d a end) < 2 ^ 64
+        → AllByRecursion (Fits d) a → AllByRecursion (Fits d) b
+        → length (trace_text d a end) < 2 ^ 64
         → trace_text d a end ≡ trace_text d b other → (a ≡ b) × (end ≡ other) }
 {}
 
@@ -27,12 +28,16 @@ pub fn lines_are_short()
 
 /// Bytes are the text of a trace, or have a first bad line, and never both; and each is the only one.
 pub fn each_input_is_a_trace_or_has_a_bad_line()
-    ensures either { (d : DeckView) (bytes : List ℕ) → IsTrue (is_well_formed d) → length bytes < 2 ^ 64
+    ensures either { (d : DeckView) (bytes : List ℕ) → IsTrue (is_well_formed d)
+        → length bytes < 2 ^ 64
         → ((t : TraceView) × IsTraceOf d bytes t) ⊎ ((line : ℕ) × IsFirstBadLine d bytes line) }
-    ensures not_both { (d : DeckView) (bytes : List ℕ) (t : TraceView) (line : ℕ) → IsTrue (is_well_formed d)
+    ensures not_both { (d : DeckView) (bytes : List ℕ) (t : TraceView) (line : ℕ)
+        → IsTrue (is_well_formed d)
         → length bytes < 2 ^ 64 → IsTraceOf d bytes t → IsFirstBadLine d bytes line → ⊥ }
-    ensures one_trace { (d : DeckView) (bytes : List ℕ) (t u : TraceView) → IsTrue (is_well_formed d)
+    ensures one_trace { (d : DeckView) (bytes : List ℕ) (t u : TraceView)
+        → IsTrue (is_well_formed d)
         → length bytes < 2 ^ 64 → IsTraceOf d bytes t → IsTraceOf d bytes u → t ≡ u }
-    ensures one_line { (d : DeckView) (bytes : List ℕ) (line other : ℕ) → IsFirstBadLine d bytes line
+    ensures one_line { (d : DeckView) (bytes : List ℕ) (line other : ℕ)
+        → IsFirstBadLine d bytes line
         → IsFirstBadLine d bytes other → line ≡ other }
 {}

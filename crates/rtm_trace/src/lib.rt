@@ -5,12 +5,16 @@ mod entry_line;
 mod fault;
 mod fit;
 mod form;
+mod index;
 mod known;
+mod labels;
 mod laws;
 mod names;
+mod piece;
 pub mod push;
 mod read;
 mod send;
+mod table;
 mod text;
 mod word;
 

@@ -1,7 +1,7 @@
 //! Looking up what a line names.
 
 ghost use Rattle.std.specs.Prelude.{◌≡◌, [], map, OnOk, IfOk};
-ghost use Rattle.rtm_trace.specs.Words.{put_name, put_names, names_of, narrow, number_of_name};
+ghost use Rattle.rtm_trace.specs.inner.Words.{put_name, put_names, names_of, narrow, number_of_name};
 
 use indexmap::IndexSet;
 use rtm_codes::NoMemory;
@@ -18,7 +18,7 @@ pub(crate) struct Names {
 }
 
 impl Model for Names {
-    ghost use Rattle.rtm_trace.specs.Words.{NamesView};
+    ghost use Rattle.rtm_trace.specs.inner.Words.{NamesView};
 
     ghost Value = { NamesView };
 

@@ -1,6 +1,6 @@
 //! Text at the end of a buffer.
 
-ghost use Rattle.std.specs.Prelude.{◌≡◌, ◌++◌, length, OnOk};
+ghost use Rattle.std.specs.Prelude.{◌≡◌, ◌++◌, ◌≤◌, decimal, length, OnOk};
 ghost use Rattle.rtm_codes.specs.Code.{IsInRange, text_of};
 ghost use Rattle.rtm_deck_operands.specs.Name.{trimmed_text};
 ghost use Rattle.rtm_trace.specs.Text.{reason_digits, flag_text};
@@ -54,7 +54,8 @@ fn len_of(field: &[u8]) -> usize
 /// A name without its padding.
 #[tactic(auto, using(crate::proofs::Front::take_front))]
 pub(crate) fn name_text(name: &Name) -> &[u8]
-    ensures { result.now ≡ trimmed_text name.now }
+    ensures text { result.now ≡ trimmed_text name.now }
+    ensures few { length result.now ≤ 8 }
 {
     let field = &name.0;
     let (text, _blanks) = field.split_at(len_of(field));
@@ -62,8 +63,28 @@ pub(crate) fn name_text(name: &Name) -> &[u8]
 }
 
 /// Puts a name without its padding.
+#[tactic(auto, using(crate::proofs::Pieces::name_whole))]
 pub fn name(out: &mut Vec<u8>, name: &Name) -> Result<(), NoMemory>
     ensures { OnOk result (out.new.items ≡ out.old.items ++ trimmed_text name.now) }
 {
-    bytes(out, name_text(name))
+    let before = out.len();
+    out.extend_from_slice(&name.0)?;
+    out.truncate(before + len_of(&name.0));
+    Ok(())
+}
+
+/// Puts the number in decimal digits, in the quickest way where they are one or two.
+#[inline(always)]
+#[tactic(auto, using(crate::proofs::Pieces::one_digit, crate::proofs::Pieces::two_digits))]
+pub(crate) fn small_number(out: &mut Vec<u8>, n: u16) -> Result<(), NoMemory>
+    ensures { OnOk result (out.new.items ≡ out.old.items ++ decimal n) }
+{
+    if n < 10 {
+        return Ok(out.extend_from_slice(&[b'0' + n as u8])?);
+    }
+    if n < 100 {
+        let digits = [b'0' + (n / 10) as u8, b'0' + (n % 10) as u8];
+        return Ok(out.extend_from_slice(&digits)?);
+    }
+    number(out, u64::from(n))
 }

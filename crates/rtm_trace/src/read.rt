@@ -2,11 +2,11 @@
 
 ghost use Rattle.std.specs.Prelude.{◌≡◌, ◌+◌, ◌≤◌, ◌<◌, [], ◌∷◌, length, take, drop, IfOk, IfErr, IfSome, ℕ};
 ghost use Rattle.rtm_trace.specs.Answer.{IsFaultOf, IsThatTrace, IsThatLine, Gives};
-ghost use Rattle.rtm_trace.specs.Known.{AreKnown, IsSaid};
+ghost use Rattle.rtm_trace.specs.inner.Known.{AreKnown, IsSaid};
 ghost use Rattle.rtm_trace.specs.Lines.{IsTraceOf, IsFirstBadLine, text_lines};
-ghost use Rattle.rtm_trace.specs.Reading.{confirmed_entry, entry_on, trace_at_end, read_on, read_lines};
+ghost use Rattle.rtm_trace.specs.inner.Reading.{confirmed_entry, entry_on, trace_at_end, read_on, read_lines};
 ghost use Rattle.rtm_trace.specs.View.{TraceView, trace_of};
-ghost use Rattle.rtm_trace.specs.Words.{names_of, first_of, after_of};
+ghost use Rattle.rtm_trace.specs.inner.Words.{names_of, first_of, after_of};
 
 use crate::entry_line::{line_in, what_in};
 use crate::fault::TraceFault;
@@ -14,8 +14,8 @@ use crate::fit::{fits, what_fits};
 use crate::known::{Places, behind_index, cut_unit, no_places, place_of, recall, remember};
 use crate::names::Names;
 use crate::push;
+use crate::table::end_in;
 use crate::text::{push_line, push_what};
-use crate::word::end_in;
 use memchr::memchr;
 use rtm_codes::NoMemory;
 use rtm_deck_items::Deck;
@@ -123,8 +123,8 @@ fn known_or_read<'a>(
     Ok(found)
 }
 
-// The entry of that index whose line it is. It is read part by part, and whole only where it is none that way. The guess is
-// the unit that it may be of.
+// The entry of that index whose line it is. It is read part by part, and whole only where it is none that way. The
+// guess is the unit that it may be of.
 fn entry_by_parts<'a>(
     deck: &Deck,
     names: &Names,
@@ -203,7 +203,8 @@ fn bad_line(count: usize) -> TraceFault
     }
 }
 
-// The unit of the line behind one of `unit`, where the line before was of `last`: in turns the one after it, else the same.
+// The unit of the line behind one of `unit`, where the line before was of `last`: in turns the one after it, else the
+// same.
 fn guessed_unit(last: u16, unit: u16) -> u16 {
     if unit == last.saturating_add(1) {
         unit.saturating_add(1)
@@ -260,9 +261,9 @@ fn read_lines(alloc: Global, deck: &Deck, bytes: &[u8]) -> Result<Trace, TraceFa
 
 /// Reads the text of a trace, or names its first bad line (this profile).
 ///
-/// Bad is a line that isn't the text of an entry that fits the deck and has the line's own index, the format's line at the
-/// front and an end's at the back; so is a last line without a line feed, a line behind the end, and where there is no end
-/// the line behind the last. The other error is want of memory.
+/// Bad is a line that isn't the text of an entry that fits the deck and has the line's own index, the format's line
+/// at the front and an end's at the back; so is a last line without a line feed, a line behind the end, and where
+/// there is no end the line behind the last. The other error is want of memory.
 pub fn read_trace(alloc: Global, deck: &Deck, bytes: &[u8]) -> Result<(Vec<Entry>, End), TraceFault>
     requires { length bytes.now ≤ 4294967294 }
     ensures found { IfOk result (λ read. IsTraceOf deck.now bytes.now (trace_of read)) }

@@ -1,12 +1,17 @@
 //! The text of a trace, format 1.
 
-ghost use Rattle.std.specs.Prelude.{◌≡◌, ◌++◌, ◌+◌, OnOk, IfOk, slice_get};
+ghost use Rattle.std.specs.Prelude.{◌≡◌, ◌++◌, ◌+◌, ◌<◌, ◌≤◌, OnOk, IfOk, codes, decimal, length, slice_get};
 ghost use Rattle.std.specs.List.{AllByRecursion};
 ghost use Rattle.rtm_codes.specs.Code.{IsInRange};
 ghost use Rattle.rtm_model.specs.Fits.{Fits, WhatFits};
-ghost use Rattle.rtm_trace.specs.Text.{unit_text, program_in, land_text, enter_text, left_text, done_text, arrive_text, begin_text, place_text, reason_text, mark_text, kind_text, class_text, res_text, fate_text, posted_text, verdict_text, what_text, entry_text, line_text, lines_text, end_text, end_line, trace_text};
+ghost use Rattle.rtm_deck_items.specs.View.{DeckView};
+ghost use Rattle.rtm_trace.specs.inner.Labels.{labels_of};
+ghost use Rattle.rtm_trace.specs.Text.{unit_text, program_in, land_text, enter_text, left_text, done_text, arrive_text, begin_text, place_text, reason_text, mark_text, posted_text, verdict_text, what_text, entry_text, line_text, lines_text, end_text, end_line, trace_text};
 
+use crate::index::Index;
+use crate::labels::Labels;
 use crate::push;
+use crate::table::{class_word, end_line, fate_word, kind_word, res_word, verdict_word};
 use rtm_codes::{Code, NoMemory};
 use rtm_deck_items::{Deck, Res};
 use rtm_model::{Class, End, Entry, Fate, Kind, Mark, Place, Verdict, What};
@@ -29,7 +34,7 @@ fn push_place(out: &mut Vec<u8>, deck: &Deck, place: Place) -> Result<(), NoMemo
 {
     push_program(out, deck, place.prog)?;
     push::bytes(out, b".")?;
-    push::number(out, u64::from(place.op))
+    push::small_number(out, place.op)
 }
 
 fn push_program(out: &mut Vec<u8>, deck: &Deck, prog: u16) -> Result<(), NoMemory>
@@ -65,51 +70,6 @@ fn push_mark(out: &mut Vec<u8>, mark: Mark) -> Result<(), NoMemory>
     push::flag(out, mark.staf, b" STAF")
 }
 
-fn push_kind(out: &mut Vec<u8>, kind: Kind) -> Result<(), NoMemory>
-    ensures { OnOk result (out.new.items ≡ out.old.items ++ kind_text kind) }
-{
-    match kind {
-        Kind::Frr => push::bytes(out, b"FRR"),
-        Kind::Estae => push::bytes(out, b"ESTAE"),
-        Kind::Estai => push::bytes(out, b"ESTAI"),
-        Kind::Mgr => push::bytes(out, b"MGR"),
-    }
-}
-
-fn push_class(out: &mut Vec<u8>, class: Class) -> Result<(), NoMemory>
-    ensures { OnOk result (out.new.items ≡ out.old.items ++ class_text class) }
-{
-    match class {
-        Class::Cancel => push::bytes(out, b"CANCEL"),
-        Class::Detach => push::bytes(out, b"DETACH"),
-        Class::Mother => push::bytes(out, b"MOTHER"),
-        Class::Step => push::bytes(out, b"STEP"),
-        Class::Abterm => push::bytes(out, b"ABTERM"),
-        Class::Srb => push::bytes(out, b"SRB"),
-    }
-}
-
-fn push_res(out: &mut Vec<u8>, class: Res) -> Result<(), NoMemory>
-    ensures { OnOk result (out.new.items ≡ out.old.items ++ res_text class) }
-{
-    match class {
-        Res::Enq => push::bytes(out, b"ENQ"),
-        Res::Stor => push::bytes(out, b"STOR"),
-        Res::Dsn => push::bytes(out, b"DSN"),
-        Res::Timr => push::bytes(out, b"TIMR"),
-    }
-}
-
-fn push_fate(out: &mut Vec<u8>, fate: Fate) -> Result<(), NoMemory>
-    ensures { OnOk result (out.new.items ≡ out.old.items ++ fate_text fate) }
-{
-    match fate {
-        Fate::Queued => push::bytes(out, b"QUEUED"),
-        Fate::Merged => push::bytes(out, b"MERGED"),
-        Fate::Late => push::bytes(out, b"LATE"),
-    }
-}
-
 fn push_posted(out: &mut Vec<u8>, words: &[u8], fate: Option<Fate>) -> Result<(), NoMemory>
     ensures { OnOk result (out.new.items ≡ out.old.items ++ posted_text words.now fate) }
 {
@@ -117,7 +77,7 @@ fn push_posted(out: &mut Vec<u8>, words: &[u8], fate: Option<Fate>) -> Result<()
         None => Ok(()),
         Some(fate) => {
             push::bytes(out, words)?;
-            push_fate(out, fate)
+            push::bytes(out, fate_word(fate))
         }
     }
 }
@@ -130,11 +90,9 @@ fn push_verdict(out: &mut Vec<u8>, deck: &Deck, verdict: Verdict) -> Result<(), 
             push::bytes(out, b"RETRY ")?;
             push_place(out, deck, place)
         }
-        Verdict::Perc => push::bytes(out, b"PERC"),
-        Verdict::Stop => push::bytes(out, b"STOP"),
-        Verdict::Bad => push::bytes(out, b"BAD"),
-        Verdict::Fail => push::bytes(out, b"FAIL"),
-        Verdict::Over => push::bytes(out, b"OVER"),
+        Verdict::Perc | Verdict::Stop | Verdict::Bad | Verdict::Fail | Verdict::Over => {
+            push::bytes(out, verdict_word(verdict))
+        }
     }
 }
 
@@ -149,7 +107,8 @@ fn push_exec(out: &mut Vec<u8>, deck: &Deck, at: Place, rc: u8) -> Result<(), No
 
 fn push_error(out: &mut Vec<u8>, deck: &Deck, at: Place, mark: Mark) -> Result<(), NoMemory>
     requires { IsInRange mark.code }
-    ensures { OnOk result (out.new.items ≡ out.old.items ++ what_text deck.now (What.Error at mark)) }
+    ensures { OnOk result
+        (out.new.items ≡ out.old.items ++ what_text deck.now (What.Error at mark)) }
 {
     push::bytes(out, b"ERROR ")?;
     push_place(out, deck, at)?;
@@ -162,7 +121,7 @@ fn push_land(out: &mut Vec<u8>, class: Class, from: u32, mark: Mark) -> Result<(
     ensures { OnOk result (out.new.items ≡ out.old.items ++ land_text class from mark) }
 {
     push::bytes(out, b"LAND ")?;
-    push_class(out, class)?;
+    push::bytes(out, class_word(class))?;
     push::bytes(out, b" ")?;
     push::number(out, u64::from(from))?;
     push::bytes(out, b" ")?;
@@ -180,7 +139,7 @@ fn push_enter(
     ensures { OnOk result (out.new.items ≡ out.old.items ++ enter_text kind reg mark bare) }
 {
     push::bytes(out, b"ENTER ")?;
-    push_kind(out, kind)?;
+    push::bytes(out, kind_word(kind))?;
     push::bytes(out, b" ")?;
     push::number(out, u64::from(reg))?;
     push::bytes(out, b" ")?;
@@ -198,7 +157,7 @@ fn push_left(
     ensures { OnOk result (out.new.items ≡ out.old.items ++ left_text deck.now kind reg verdict) }
 {
     push::bytes(out, b"LEAVE ")?;
-    push_kind(out, kind)?;
+    push::bytes(out, kind_word(kind))?;
     push::bytes(out, b" ")?;
     push::number(out, u64::from(reg))?;
     push::bytes(out, b" ")?;
@@ -216,7 +175,7 @@ fn push_release(
         (out.new.items ≡ out.old.items ++ what_text deck.now (What.Release class id owner)) }
 {
     push::bytes(out, b"RELEASE ")?;
-    push_res(out, class)?;
+    push::bytes(out, res_word(class))?;
     push::bytes(out, b" ")?;
     push::number(out, u64::from(id))?;
     push::bytes(out, b" ")?;
@@ -261,7 +220,7 @@ fn push_arrive(out: &mut Vec<u8>, cmd: u8, fate: Fate) -> Result<(), NoMemory>
     push::bytes(out, b"ARRIVE ")?;
     push::number(out, u64::from(cmd))?;
     push::bytes(out, b" ")?;
-    push_fate(out, fate)
+    push::bytes(out, fate_word(fate))
 }
 
 fn push_begin(out: &mut Vec<u8>, code: Code, dump: bool) -> Result<(), NoMemory>
@@ -353,20 +312,96 @@ pub fn end_word(end: End) -> &'static [u8]
     }
 }
 
-fn push_end(out: &mut Vec<u8>, end: End) -> Result<(), NoMemory>
-    ensures { OnOk result (out.new.items ≡ out.old.items ++ end_line end) }
+// What stands behind the place on the line of a card's entry.
+#[inline(always)]
+#[tactic(auto, using(crate::proofs::Pieces::one_digit))]
+fn push_rc(out: &mut Vec<u8>, rc: u8) -> Result<(), NoMemory>
+    ensures { OnOk result
+        (out.new.items ≡ out.old.items ++ (codes " RC=" ++ decimal rc ++ codes "\n")) }
 {
-    push::bytes(out, b"END ")?;
-    push::bytes(out, end_word(end))?;
+    if rc < 10 {
+        return Ok(out.extend_from_slice(&[b' ', b'R', b'C', b'=', b'0' + rc, b'\n'])?);
+    }
+    push::bytes(out, b" RC=")?;
+    push::number(out, u64::from(rc))?;
     push::bytes(out, b"\n")
 }
 
-pub(crate) fn push_lines(out: &mut Vec<u8>, deck: &Deck, entries: &[Entry]) -> Result<(), NoMemory>
-    requires { AllByRecursion (Fits deck.now) entries.now }
+// The line of a card's entry, which is that of most.
+fn push_exec_line(
+    out: &mut Vec<u8>,
+    labels: &Labels,
+    index: &Index,
+    unit: u16,
+    at: Place,
+    rc: u8,
+) -> Result<(), NoMemory>
+    requires unit { unit < length labels.now.execs }
+    requires program { at.prog < length labels.now.programs }
+    ensures { (d : DeckView) → labels.now ≡ labels_of d → unit ≤ length d.units
+        → at.prog < length d.programs
+        → OnOk result (out.new.items ≡ out.old.items
+        ++ line_text d index.now (record { unit = unit; what = What.Exec at rc })) }
+{
+    index.put(out)?;
+    labels.exec(unit).put(out)?;
+    labels.program(at.prog).put(out)?;
+    push::small_number(out, at.op)?;
+    push_rc(out, rc)
+}
+
+// The line of another entry.
+#[inline(never)]
+fn push_other_line(
+    out: &mut Vec<u8>,
+    deck: &Deck,
+    labels: &Labels,
+    index: &Index,
+    entry: &Entry,
+) -> Result<(), NoMemory>
+    requires fit { Fits deck.now entry.now }
+    requires labels { labels.now ≡ labels_of deck.now }
+    ensures { OnOk result (out.new.items ≡ out.old.items ++ line_text deck.now index.now entry.now) }
+{
+    index.put(out)?;
+    labels.unit(entry.unit).put(out)?;
+    push_what(out, deck, entry.what)?;
+    push::bytes(out, b"\n")
+}
+
+// The line of an entry, by the labels of the deck.
+#[inline(always)]
+fn push_labelled(
+    out: &mut Vec<u8>,
+    deck: &Deck,
+    labels: &Labels,
+    index: &Index,
+    entry: &Entry,
+) -> Result<(), NoMemory>
+    requires fit { Fits deck.now entry.now }
+    requires labels { labels.now ≡ labels_of deck.now }
+    ensures { OnOk result (out.new.items ≡ out.old.items ++ line_text deck.now index.now entry.now) }
+{
+    match entry.what {
+        What::Exec { at, rc } => push_exec_line(out, labels, index, entry.unit, at, rc),
+        _ => push_other_line(out, deck, labels, index, entry),
+    }
+}
+
+fn push_lines(
+    out: &mut Vec<u8>,
+    deck: &Deck,
+    labels: &Labels,
+    entries: &[Entry],
+) -> Result<(), NoMemory>
+    requires fit { AllByRecursion (Fits deck.now) entries.now }
+    requires labels { labels.now ≡ labels_of deck.now }
     ensures { OnOk result (out.new.items ≡ out.old.items ++ lines_text deck.now 0 entries.now) }
 {
-    'entries: for (index, entry) in entries.iter().enumerate() {
-        push_line(out, deck, index as u64, entry)?;
+    let mut index = Index::first();
+    'entries: for entry in entries {
+        push_labelled(out, deck, labels, &index, entry)?;
+        index.count_up();
     }
     Ok(())
 }
@@ -387,7 +422,8 @@ pub fn trace_text(
 {
     let mut out = Vec::with_capacity(alloc, entries.len().saturating_mul(USUAL_LINE))?;
     push::bytes(&mut out, b"RTMTRACE 1\n")?;
-    push_lines(&mut out, deck, entries)?;
-    push_end(&mut out, end)?;
+    let labels = Labels::of(alloc, deck)?;
+    push_lines(&mut out, deck, &labels, entries)?;
+    push::bytes(&mut out, end_line(end))?;
     Ok(out)
 }

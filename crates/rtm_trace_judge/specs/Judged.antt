@@ -14,8 +14,8 @@ pub record IsJudged (d : DeckView) (entries : List Entry) (end : End) : Type 0 w
   pub legal : Legal d entries
   pub ends : end_of d entries ≡ Some end
 
--- The entry of that index is the first that may not stand where it does: those before it are a legal history, and it may not
--- follow them. Wanted is the entry that the machine gives its unit there.
+-- The entry of that index is the first that may not stand where it does: those before it are a legal history, and it
+-- may not follow them. Wanted is the entry that the machine gives its unit there.
 pub record IsFirstIllegal (d : DeckView) (entries : List Entry) (index : ℕ) (want : Option Entry) : Type 0 where
   pub before : Legal d (take index entries)
   pub entry : Entry

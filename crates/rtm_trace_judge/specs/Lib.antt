@@ -1,1 +1,6 @@
 pub mod Judged
+pub use Rattle.rtm_deck_items.specs.View
+pub use Rattle.rtm_deck_items.specs.WellFormed
+pub use Rattle.rtm_model.specs.Legal
+pub use Rattle.rtm_board.specs.All
+pub use Rattle.rtm_system.specs.Turned

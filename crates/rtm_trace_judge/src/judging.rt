@@ -19,15 +19,17 @@ use std::alloc::Global;
 pub enum JudgeFault {
     /// Memory was refused: nothing is said of the history.
     Memory,
-    /// The entry of that index, from 0, may not stand behind those before it. Wanted is the entry that the machine gives that
-    /// entry's unit there: none where it gives none, at the limit of entries, and where there is no such unit.
+    /// The entry of that index, from 0, may not stand behind those before it. Wanted is the entry that the machine
+    /// gives that entry's unit there: none where it gives none, at the limit of entries, and where there is no such
+    /// unit.
     NotLegal { index: u32, wanted: Option<Entry> },
     /// All entries may stand where they do, but the history ends otherwise than stated; none is found where it goes on.
     WrongEnd { stated: End, found: Option<End> },
 }
 
-/// Judges a history of the deck that somebody else made, and the end that they state: Ok exactly where the machine may make
-/// these entries and they end so. Any list of entries is answered, also one whose entries name nothing of the deck.
+/// Judges a history of the deck that somebody else made, and the end that they state: Ok exactly where the machine
+/// may make these entries and they end so. Any list of entries is answered, also one whose entries name nothing of
+/// the deck.
 pub fn judge(alloc: Global, deck: &Deck, entries: &[Entry], end: End) -> Result<(), JudgeFault>
     ensures ok { OnOk result (IsJudged deck.now entries.now end) }
     ensures fault { IfErr result (IsFault deck.now entries.now end) }

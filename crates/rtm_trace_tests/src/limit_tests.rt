@@ -20,8 +20,8 @@ pub enum Part {
     Once(&'static str),
     /// These lines, so many times.
     Times(u32, &'static str),
-    /// These lines, so many times, with a number in the place of each `#`: at first the second number, and from one time
-    /// to the next so much more as the third says.
+    /// These lines, so many times, with a number in the place of each `#`: at first the second number, and from one
+    /// time to the next so much more as the third says.
     Numbered(u32, i32, i32, &'static str),
 }
 

@@ -21,7 +21,8 @@ A TASK PGM=R
  END
 ";
 
-// A line, and which of its changes by one character make another line that may stand in its place. All others are wrong.
+// A line, and which of its changes by one character make another line that may stand in its place. All others are
+// wrong.
 struct Row {
     line: &'static str,
     /// Bytes that may stand at an index in place of the one that does.

@@ -24,7 +24,8 @@ fn words_behind(alloc: Global, all: Vec<String>) -> Result<Vec<RtmWord>, AllocEr
         .collect(alloc)
 }
 
-// The words that the system hands over, the program's name in front. Which they are the system gives no contract can say.
+// The words that the system hands over, the program's name in front. Which they are the system gives no contract can
+// say.
 fn all_words<R: Env + AllocGlobal>(rt: &R) -> Result<Vec<String>, Status>
     ensures { IfErr result HasNoWords }
 {

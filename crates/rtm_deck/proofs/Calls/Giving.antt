@@ -5,9 +5,9 @@ use Rattle.rtm_cards.specs.declared.fault.CutFault.{CutFault}
 use Rattle.rtm_deck.specs.declared.fault.DeckFault.{DeckFault}
 use Rattle.rtm_deck.specs.declared.fault.DeckFault.TheVariants.{Memory, Refused}
 use Rattle.rtm_deck_items.specs.View.{DeckView}
-use Rattle.rtm_deck.specs.View.{ScanView, Refusal}
-use Rattle.rtm_deck.specs.References.{refusal}
-use Rattle.rtm_deck.specs.Reader.{Gives, Finds, deck_or_fault, deck_if_named}
+use Rattle.rtm_deck.specs.inner.View.{ScanView, Refusal}
+use Rattle.rtm_deck.specs.inner.References.{refusal}
+use Rattle.rtm_deck.specs.inner.Reader.{Gives, Finds, deck_or_fault, deck_if_named}
 
 -- want of memory is free
 pub gives-memory : {A B : Type 0} (P : A → B → Type 0) (r : Result A DeckFault) (e : DeckFault) (y : Result B Refusal) → r ≡ Err e → e ≡ Memory → Gives P r y

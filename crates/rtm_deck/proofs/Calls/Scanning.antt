@@ -8,10 +8,10 @@ use Rattle.rtm_cards.specs.View.{CardSpans}
 use Rattle.rtm_deck_items.specs.declared.why.Why.{Why}
 use Rattle.rtm_deck.specs.declared.role.Role.{Role}
 use Rattle.rtm_deck.specs.declared.role.Role.TheVariants.{Command}
-use Rattle.rtm_deck.specs.View.{ReadView, SeenView, ScanView, Refusal}
-use Rattle.rtm_deck.specs.Roles.{role_of}
-use Rattle.rtm_deck.specs.Seen.{after, read_card}
-use Rattle.rtm_deck.specs.Reader.{scan_of, scan_on, scan_next, scan}
+use Rattle.rtm_deck.specs.inner.View.{ReadView, SeenView, ScanView, Refusal}
+use Rattle.rtm_deck.specs.inner.Roles.{role_of}
+use Rattle.rtm_deck.specs.inner.Seen.{after, read_card}
+use Rattle.rtm_deck.specs.inner.Reader.{scan_of, scan_on, scan_next, scan}
 
 -- a card counts for one command at most
 commands-after : (s : SeenView) (role : Role) (name : Option (List ℕ)) (n : ℕ) → s.commands ≤ n → (after s role name).commands ≤ n + 1

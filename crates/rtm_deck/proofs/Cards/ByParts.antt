@@ -4,7 +4,7 @@ use Rattle.std.specs.Prelude.{Result, Err, IfSome}
 use Rattle.std.specs.Option.{option_map}
 use Rattle.rtm_cards.specs.Cards.{CardText}
 use Rattle.rtm_deck_operands.specs.declared.value.Value.{Value}
-use Rattle.rtm_deck_operands.specs.Reading.{name_in}
+use Rattle.rtm_deck_operands.specs.Name.{name_in}
 use Rattle.rtm_deck_items.specs.declared.why.Why.{Why}
 use Rattle.rtm_deck_items.specs.declared.form.CardForm.{CardForm}
 use Rattle.rtm_deck_items.specs.declared.why.Why.TheVariants.{UnknownOp}
@@ -12,9 +12,9 @@ use Rattle.rtm_deck_items.specs.Forms.{all_forms, form_named, operation_of}
 use Rattle.rtm_deck_spelling.proofs.RuleTests.{named_first}
 use Rattle.rtm_deck.specs.declared.role.Role.{Role}
 use Rattle.rtm_deck.proofs.Cards.ReadCards.{said_found, role_first}
-use Rattle.rtm_deck.specs.View.{ReadView, SeenView}
-use Rattle.rtm_deck.specs.Roles.{role_of}
-use Rattle.rtm_deck.specs.Seen.{SaidView, reading_in, reading_by, broken_rule, read_with, read_known, read_card}
+use Rattle.rtm_deck.specs.inner.View.{ReadView, SeenView}
+use Rattle.rtm_deck.specs.inner.Roles.{role_of}
+use Rattle.rtm_deck.specs.inner.Seen.{SaidView, reading_in, reading_by, broken_rule, read_with, read_known, read_card}
 
 -- a card whose operation is known, read from its parts
 pub read_card-parts : (s : SeenView) (c : CardText) (form : CardForm) (name : Option (List ℕ)) (said : Option SaidView) (readable : Bool) (broken : Option Why) (r : Result ReadView Why) →

@@ -4,11 +4,11 @@ use Rattle.std.specs.Prelude.{bytes_eq, IsTrue, if◌then◌else◌, ◌==◌}
 use Rattle.std.proofs.lemmas.Bool.{ne_eqb}
 use Rattle.std.proofs.lemmas.List.Folds.{list_any-append}
 use Rattle.std.proofs.lemmas.Slice.Eq.{bytes_eq-Decides}
+use Rattle.std.proofs.Math.Bool.{or-false}
 use Rattle.rtm_cards.specs.Name.{is_name, is_name_field}
-use Rattle.rtm_deck_operands.specs.Name.{padded_text, trimmed_text, is_padded_name}
-use Rattle.rtm_deck_operands.specs.Reading.{name_in}
+use Rattle.rtm_deck_operands.specs.Name.{padded_text, trimmed_text, is_padded_name, name_in}
 use Rattle.rtm_deck_operands.proofs.Names.{trimmed_text-padded_text, padded_parts}
-use Rattle.rtm_deck.specs.Seen.{has_name, insert_name, with_name}
+use Rattle.rtm_deck.specs.inner.Seen.{has_name, insert_name, with_name}
 
 -- two tests are equal where each gives the other
 pub same_test : (a b : Bool) → (a ≡ true → b ≡ true) → (b ≡ true → a ≡ true) → a ≡ b
@@ -19,16 +19,6 @@ same_test false true f g = g refl
 
 pub eq_refl : (a : List ℕ) → bytes_eq a a ≡ true
 eq_refl a = (bytes_eq-Decides a a).1 refl
-
-pub or_false : (a : Bool) → (a || false) ≡ a
-or_false true = refl
-or_false false = refl
-
-pub or_swap : (a b : Bool) → (a || b) ≡ (b || a)
-or_swap true true = refl
-or_swap true false = refl
-or_swap false true = refl
-or_swap false false = refl
 
 -- a name and a text with its padding are equal where the name without its padding is the text
 pub same_name : (name text : List ℕ) → IsTrue (is_padded_name name) → is_name text ≡ true → bytes_eq name (padded_text text) ≡ bytes_eq text (trimmed_text name)
@@ -61,7 +51,7 @@ both_or false false h = refl
 
 has_inserted : (names : List (List ℕ)) (one name : List ℕ) (b : Bool) → has_name names one ≡ b → has_name (if b then names else names ++ one ∷ []) name ≡ (has_name names name || bytes_eq name one)
 has_inserted names one name true e = both_or (has_name names name) (bytes_eq name one) (follows names one name e)
-has_inserted names one name false e = list_any-append (bytes_eq name) names (one ∷ []) ∙ ap (λ b. has_name names name || b) (or_false (bytes_eq name one))
+has_inserted names one name false e = list_any-append (bytes_eq name) names (one ∷ []) ∙ ap (λ b. has_name names name || b) (or-false (bytes_eq name one))
 
 -- one more name is there
 pub has_insert : (names : List (List ℕ)) (one name : List ℕ) → has_name (insert_name names one) name ≡ (has_name names name || bytes_eq name one)
@@ -71,7 +61,7 @@ has_insert names one name = has_inserted names one name (has_name names one) ref
 named_with : (names : List (List ℕ)) (text name : List ℕ) (b : Bool) → is_name text ≡ b → (length text == 0 || b) ≡ true → IsTrue (is_padded_name name)
     → has_name (with_name names (if b then Some (padded_text text) else None)) name ≡ (has_name names name || bytes_eq text (trimmed_text name))
 named_with names text name true e field h = has_insert names (padded_text text) name ∙ ap (λ b. has_name names name || b) (same_name name text h e)
-named_with names [] name false e field h = sym (ap (λ b. has_name names name || b) (trimmed_ne_nil (trimmed_text name) (padded_parts name h).name) ∙ or_false (has_name names name))
+named_with names [] name false e field h = sym (ap (λ b. has_name names name || b) (trimmed_ne_nil (trimmed_text name) (padded_parts name h).name) ∙ or-false (has_name names name))
 named_with names (t ∷ ts) name false e field h =
     let none : ((suc (length ts) == 0) || false) ≡ false = ap (λ b. b || false) (ne_eqb (suc (length ts)) 0 (λ e. absurd (omega (arith, e)))) in
     let clash : false ≡ true = sym none ∙ field in

@@ -4,12 +4,13 @@ use Rattle.std.specs.Prelude.{◌⊎◌, bytes_eq, IsTrue, Result, Ok, Err, ◌=
 use Rattle.std.specs.Option.{option_map, option_or}
 use Rattle.std.specs.List.{AllByRecursion}
 use Rattle.std.proofs.lemmas.Slice.Eq.{bytes_eq-Decides}
+use Rattle.std.proofs.lemmas.Bool.{not-true, not-false}
 use Rattle.rtm_cards.specs.Name.{is_name_field}
 use Rattle.rtm_cards.specs.Cards.{CardText}
 use Rattle.rtm_deck_operands.specs.declared.value.Value.{Value}
 use Rattle.rtm_deck_operands.specs.declared.slot.Slot.{Slot}
 use Rattle.rtm_deck_operands.specs.Slot.{well_made}
-use Rattle.rtm_deck_operands.specs.Reading.{name_in}
+use Rattle.rtm_deck_operands.specs.Name.{name_in}
 use Rattle.rtm_deck_operands.proofs.SlotReading.{table_parts, read_slots-Some, read_slots-spelled}
 use Rattle.rtm_deck_items.specs.declared.why.Why.{Why}
 use Rattle.rtm_deck_items.specs.declared.why.Why.TheVariants.{UnknownOp, BadOperand}
@@ -19,21 +20,17 @@ use Rattle.rtm_deck_items.specs.Forms.{all_forms, operation_of, slots_of, needs_
 use Rattle.rtm_deck_items.specs.Spelling.{SpellsForm, SpellsOperands}
 use Rattle.rtm_deck_items.specs.Faults.{HasBadOperands, BreaksRule, BreaksFirst, BreaksNone, rules}
 use Rattle.rtm_deck_spelling.proofs.Forms.{for_each, form_is_well_made}
-use Rattle.rtm_deck.specs.View.{SeenView, ReadView}
-use Rattle.rtm_deck.specs.Roles.{role_of}
-use Rattle.rtm_deck.specs.Seen.{SaidView, read_all, read_by, reading_of, reading_as, reading_by, broken_rule, read_with, read_known, read_card}
+use Rattle.rtm_deck.specs.inner.View.{SeenView, ReadView}
+use Rattle.rtm_deck.specs.inner.Roles.{role_of}
+use Rattle.rtm_deck.specs.inner.Seen.{SaidView, read_all, read_by, reading_of, reading_as, reading_by, broken_rule, read_with, read_known, read_card}
 use Rattle.rtm_deck_spelling.proofs.RuleTests.{first_form, named_first}
 use Rattle.rtm_deck.specs.declared.role.Role.{Role}
-use Rattle.rtm_deck.specs.Roles.{is_misnamed_role}
-use Rattle.rtm_deck.specs.Seen.{is_misplaced_role, is_doubled_name}
+use Rattle.rtm_deck.specs.inner.Roles.{is_misnamed_role}
+use Rattle.rtm_deck.specs.inner.Seen.{is_misplaced_role, is_doubled_name}
 use Rattle.rtm_deck_items.specs.declared.why.Why.TheVariants.{BadCard, WrongPlace, DuplicateName}
 use Rattle.rtm_deck.proofs.Cards.SeenCards.{Sees, CallsAs, calls_of}
 use Rattle.rtm_deck.proofs.Cards.SeenAfter.{Accepted}
 use Rattle.rtm_deck.proofs.Cards.Rules.{Tests, Answers, broken_is, placed_is}
-
-not_true : (b : Bool) → not b ≡ true → b ≡ false
-not_true true e = absurd cc
-not_true false e = refl
 
 -- operands are spelled by what they are read as
 all_found : (slots : List Slot) (operands : List (List ℕ)) (values : List (Option Value)) → read_all slots operands ≡ Some values → SpellsOperands slots operands values
@@ -62,7 +59,7 @@ read_is : (slots : List Slot) (wanted : Bool) (operands : List (List ℕ)) (valu
     → (IsTrue wanted → IsTrue (not (length operands == 0))) → read_by slots wanted operands ≡ Some values
 read_is slots false operands values made s some = all_is slots operands values made s
 read_is slots true operands values made s some =
-    ap (λ b. if true && b then None else read_all slots operands) (not_true (length operands == 0) (some refl)) ∙ all_is slots operands values made s
+    ap (λ b. if true && b then None else read_all slots operands) (not-true (length operands == 0) (some refl)) ∙ all_is slots operands values made s
 
 map_Some : {A B : Type 0} (f : A → B) (o : Option A) (y : B) → option_map f o ≡ Some y → (x : A) × (o ≡ Some x) × (f x ≡ y)
 map_Some f None y e = absurd cc
@@ -113,10 +110,6 @@ some_said : (o : Option SaidView) → is_some o ≡ true → (s : SaidView) × (
 some_said None e = absurd cc
 some_said (Some s) e = (s, refl)
 
-not_false : (b : Bool) → not b ≡ false → b ≡ true
-not_false true e = refl
-not_false false e = absurd cc
-
 none_said : (o : Option SaidView) → is_some o ≡ false → o ≡ None
 none_said None e = refl
 none_said (Some s) e = absurd cc
@@ -124,9 +117,9 @@ none_said (Some s) e = absurd cc
 -- whether the operands can be read
 readable : (c : CardText) → Tests (not (is_some (reading_by c.op c.operands all_forms))) (HasBadOperands c)
 readable c = record {
-  yes = λ e. bad_operands c (none_said _ (not_true _ e));
+  yes = λ e. bad_operands c (none_said _ (not-true _ e));
   no = λ e bad.
-      let s = some_said _ (not_false _ e) in
+      let s = some_said _ (not-false _ e) in
       let f = said_found c.op c.operands all_forms s.0 s.1 in
       bad s.0.form s.0.values f.0 f.1;
 }

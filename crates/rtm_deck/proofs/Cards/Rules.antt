@@ -2,12 +2,11 @@
 use Rattle.std.proofs.Common.{◌≡◌, ℕ, suc, Bool, true, false, not, ◌&&◌, ◌||◌, List, [], ◌∷◌, length, Option, Some, None, is_some, is_none, refl, ap, sym, subst, ◌∙◌, inl, inr, arith}
 use Rattle.std.specs.Prelude.{codes, IsTrue, count_by, nat_le, ◌==◌, if◌then◌else◌}
 use Rattle.std.specs.List.{list_any}
-use Rattle.std.proofs.lemmas.Bool.{ne_eqb}
+use Rattle.std.proofs.lemmas.Bool.{ne_eqb, or_parts}
 use Rattle.rtm_cards.specs.Name.{is_name, is_name_field}
 use Rattle.rtm_cards.specs.Limits.{most_programs, most_units, most_commands}
 use Rattle.rtm_cards.specs.Cards.{CardText}
-use Rattle.rtm_deck_operands.specs.Name.{padded_text}
-use Rattle.rtm_deck_operands.specs.Reading.{name_in}
+use Rattle.rtm_deck_operands.specs.Name.{padded_text, name_in}
 use Rattle.rtm_deck_operands.proofs.Names.{trimmed_text-padded_text, is_padded-padded_text}
 use Rattle.rtm_deck_items.specs.declared.why.Why.{Why}
 use Rattle.rtm_deck_items.specs.declared.why.Why.TheVariants.{UnknownOp, BadCard, WrongPlace, BadOperand, DuplicateName, OverLimit, NoJobStep}
@@ -17,9 +16,9 @@ use Rattle.rtm_deck_items.specs.Forms.{is_inside, form_named, name_field}
 use Rattle.rtm_deck_items.specs.Faults.{is_called, is_named, has_operation, is_unit_card, since_program, is_misnamed, is_misplaced, is_out_of_order, differ, is_doubled, is_over_limit, lacks_task, HasBadOperands, BreaksAs, BreaksRule, Breaks, BreaksFirst, BreaksNone, rules}
 use Rattle.rtm_deck.specs.declared.role.Role.{Role}
 use Rattle.rtm_deck.specs.declared.role.Role.TheVariants.{Region, Program, ProgramEnd, Task, Srb, Commands, Command, End, Line}
-use Rattle.rtm_deck.specs.View.{SeenView}
-use Rattle.rtm_deck.specs.Roles.{role_of, is_inside_role, is_misnamed_role}
-use Rattle.rtm_deck.specs.Seen.{has_name, has_given, is_unordered, is_misplaced_role, is_doubled_name, is_beyond, lacks_task_role, broken_rule}
+use Rattle.rtm_deck.specs.inner.View.{SeenView}
+use Rattle.rtm_deck.specs.inner.Roles.{role_of, is_inside_role, is_misnamed_role}
+use Rattle.rtm_deck.specs.inner.Seen.{has_name, has_given, is_unordered, is_misplaced_role, is_doubled_name, is_beyond, lacks_task_role, broken_rule}
 use Rattle.rtm_deck.proofs.Cards.SeenCards.{Holds, Sees, any_card}
 
 -- of these rules none is broken, or that one first
@@ -147,14 +146,10 @@ differ_no true false e = absurd cc
 differ_no false true e = absurd cc
 differ_no false false e = refl
 
-or_no : (a b : Bool) → (a || b) ≡ false → (a ≡ false) × (b ≡ false)
-or_no true b e = absurd cc
-or_no false b e = (refl, e)
-
 pub placed_is : (s : SeenView) (role : Role) → is_misplaced_role s role ≡ false → s.inside ≡ is_inside_role role
 placed_is s role e =
-    let ab = (or_no (s.ended || differ (is_inside_role role) s.inside) (is_unordered s role) e).0 in
-    differ_no (is_inside_role role) s.inside (or_no s.ended (differ (is_inside_role role) s.inside) ab).1
+    let ab = (or_parts (s.ended || differ (is_inside_role role) s.inside) (is_unordered s role) e).0 in
+    differ_no (is_inside_role role) s.inside (or_parts s.ended (differ (is_inside_role role) s.inside) ab).1
 
 -- a name that stands among the names of such cards
 holds_text : (names : List (List ℕ)) (test : CardText → Bool) (cards : List CardText) (text : List ℕ) → is_name text ≡ true → Holds names test cards

@@ -4,14 +4,14 @@ use Rattle.std.specs.Prelude.{codes, IsTrue, ◌==◌, if◌then◌else◌}
 use Rattle.std.proofs.lemmas.Bool.{ne_eqb}
 use Rattle.rtm_cards.specs.Name.{is_name_field}
 use Rattle.rtm_cards.specs.Cards.{CardText}
-use Rattle.rtm_deck_operands.specs.Reading.{name_in}
+use Rattle.rtm_deck_operands.specs.Name.{name_in}
 use Rattle.rtm_deck_items.specs.Faults.{is_called, is_unit_card, since_program}
 use Rattle.rtm_deck_spelling.proofs.Behind.{opened, closed, stays, since_start, since_more}
 use Rattle.rtm_deck.specs.declared.role.Role.{Role}
 use Rattle.rtm_deck.specs.declared.role.Role.TheVariants.{Region, Program, ProgramEnd, Task, Srb, Commands, Command, End, Line}
-use Rattle.rtm_deck.specs.View.{SeenView}
-use Rattle.rtm_deck.specs.Roles.{is_inside_role, is_misnamed_role}
-use Rattle.rtm_deck.specs.Seen.{has_name, has_given, with_name, after, is_doubled_name}
+use Rattle.rtm_deck.specs.inner.View.{SeenView}
+use Rattle.rtm_deck.specs.inner.Roles.{is_inside_role, is_misnamed_role}
+use Rattle.rtm_deck.specs.inner.Seen.{has_name, has_given, with_name, after, is_doubled_name}
 use Rattle.rtm_deck.proofs.Cards.Names.{longer}
 use Rattle.rtm_deck.proofs.Cards.SeenCards.{Holds, Sees, Calls, CallsAs, any_card, is_text, holds_more, holds_past, has_more, count_more, count_past}
 

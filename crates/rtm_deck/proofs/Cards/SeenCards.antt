@@ -4,10 +4,10 @@ use Rattle.std.specs.Prelude.{bytes_eq, codes, IsTrue, count_by, ◌==◌}
 use Rattle.std.specs.Option.{option_map_or}
 use Rattle.std.specs.List.{list_any}
 use Rattle.std.proofs.lemmas.List.Sums.{sum_by-cons}
+use Rattle.std.proofs.Math.Bool.{or_comm}
 use Rattle.rtm_cards.specs.Name.{is_name_field}
 use Rattle.rtm_cards.specs.Cards.{CardText}
-use Rattle.rtm_deck_operands.specs.Name.{trimmed_text, is_padded_name}
-use Rattle.rtm_deck_operands.specs.Reading.{name_in}
+use Rattle.rtm_deck_operands.specs.Name.{trimmed_text, is_padded_name, name_in}
 use Rattle.rtm_deck_items.specs.declared.form.CardForm.{CardForm}
 use Rattle.rtm_deck_items.specs.Forms.{operation_of, is_inside, form_named}
 use Rattle.rtm_deck_items.specs.Faults.{is_called, is_named, has_operation, is_in_program, is_unit_card, since_program}
@@ -15,10 +15,10 @@ use Rattle.rtm_deck_spelling.proofs.Forms.{for_each_test}
 use Rattle.rtm_deck_spelling.proofs.RuleTests.{called_as, named_first, first_form}
 use Rattle.rtm_deck.specs.declared.role.Role.{Role}
 use Rattle.rtm_deck.specs.declared.role.Role.TheVariants.{ProgramEnd, Task, Srb, Commands, Command, End, Line}
-use Rattle.rtm_deck.specs.View.{SeenView}
-use Rattle.rtm_deck.specs.Roles.{role_of, is_line, is_program_role}
-use Rattle.rtm_deck.specs.Seen.{has_name, nothing_seen, with_name}
-use Rattle.rtm_deck.proofs.Cards.Names.{has_with, or_swap}
+use Rattle.rtm_deck.specs.inner.View.{SeenView}
+use Rattle.rtm_deck.specs.inner.Roles.{role_of, is_line, is_program_role}
+use Rattle.rtm_deck.specs.inner.Seen.{has_name, nothing_seen, with_name}
+use Rattle.rtm_deck.proofs.Cards.Names.{has_with}
 
 -- a card of the text of a program
 abbrev pub is_text : CardText → Bool
@@ -173,7 +173,7 @@ pub holds_more : (names : List (List ℕ)) (test : CardText → Bool) (c : CardT
 holds_more names test c cards e field h name is =
     has_with names c.name name field is
     ∙ ap (λ b. b || bytes_eq c.name (trimmed_text name)) (h name is)
-    ∙ or_swap (list_any (λ x. test x && is_named (trimmed_text name) x) cards) (bytes_eq c.name (trimmed_text name))
+    ∙ or_comm (list_any (λ x. test x && is_named (trimmed_text name) x) cards) (bytes_eq c.name (trimmed_text name))
     ∙ sym (any_with test c cards name true e)
 
 -- a set, with one more card that doesn't pass it

@@ -4,7 +4,7 @@ use Rattle.std.specs.Prelude.{IsTrue, if◌then◌else◌}
 use Rattle.std.specs.List.{list_all, AllByRecursion}
 use Rattle.std.proofs.lemmas.Bool.{and_from}
 use Rattle.rtm_cards.specs.Cards.{CardText}
-use Rattle.rtm_deck_operands.specs.Reading.{name_in}
+use Rattle.rtm_deck_operands.specs.Name.{name_in}
 use Rattle.rtm_deck_items.specs.declared.deck.Line.{Line as LineCard}
 use Rattle.rtm_deck_items.specs.View.{DeckView, ProgramView}
 use Rattle.rtm_deck_items.specs.Forms.{slots_of}
@@ -12,11 +12,11 @@ use Rattle.rtm_deck_items.specs.Spelling.{SpellEach}
 use Rattle.rtm_deck_items.specs.WellFormed.{is_unit_of, is_command_of, is_label, is_op, is_program_of, has_label}
 use Rattle.rtm_deck.specs.declared.role.Role.{Role}
 use Rattle.rtm_deck.specs.declared.role.Role.TheVariants.{Region, Program, ProgramEnd, Task, Srb, Commands, Command, End, Line}
-use Rattle.rtm_deck.specs.View.{ReadView, SeenView}
-use Rattle.rtm_deck.specs.Roles.{role_of, is_line, is_program_role}
-use Rattle.rtm_deck.specs.Seen.{after, has_name}
-use Rattle.rtm_deck.specs.References.{first_unfound, own_labels, labels_onto, first_nameless}
-use Rattle.rtm_deck.specs.Building.{line_of, lines_from, program_of, programs_from, units_from, commands_from}
+use Rattle.rtm_deck.specs.inner.View.{ReadView, SeenView}
+use Rattle.rtm_deck.specs.inner.Roles.{role_of, is_line, is_program_role}
+use Rattle.rtm_deck.specs.inner.Seen.{after, has_name}
+use Rattle.rtm_deck.specs.inner.References.{first_unfound, own_labels, labels_onto, first_nameless}
+use Rattle.rtm_deck.specs.inner.Building.{line_of, lines_from, program_of, programs_from, units_from, commands_from}
 use Rattle.rtm_deck.proofs.Decks.Walk.{Walk}
 use Rattle.rtm_deck.proofs.Decks.Operations.{Places}
 use Rattle.rtm_deck.proofs.Decks.Laid.{Facts, facts, items_at}

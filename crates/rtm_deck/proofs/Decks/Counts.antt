@@ -6,6 +6,8 @@ use Rattle.std.specs.List.{list_any}
 use Rattle.std.proofs.lemmas.Bool.{and_parts, and_from, leb-false}
 use Rattle.std.proofs.lemmas.List.Folds.{list_any-append}
 use Rattle.std.proofs.lemmas.Slice.Eq.{bytes_eq-Decides}
+use Rattle.std.proofs.Math.Bool.{or-false, or_assoc}
+use Rattle.std.proofs.lemmas.List.{append-nil}
 use Rattle.rtm_cards.specs.Limits.{most_programs, most_units, most_commands}
 use Rattle.rtm_cards.specs.Cards.{CardText}
 use Rattle.rtm_deck_items.specs.declared.deck.Line.{Line as LineCard}
@@ -17,11 +19,11 @@ use Rattle.rtm_deck_items.specs.Reading.{is_task_card}
 use Rattle.rtm_deck_items.specs.WellFormed.{are_distinct}
 use Rattle.rtm_deck.specs.declared.role.Role.{Role}
 use Rattle.rtm_deck.specs.declared.role.Role.TheVariants.{Region, Program, ProgramEnd, Task, Srb, Commands, Command, End, Line}
-use Rattle.rtm_deck.specs.View.{ReadView, SeenView}
-use Rattle.rtm_deck.specs.Roles.{role_of}
-use Rattle.rtm_deck.specs.Seen.{after, has_name, insert_name, with_name}
-use Rattle.rtm_deck.specs.Building.{lines_from, programs_from, units_from, commands_from}
-use Rattle.rtm_deck.proofs.Cards.Names.{same_test, has_insert, or_false}
+use Rattle.rtm_deck.specs.inner.View.{ReadView, SeenView}
+use Rattle.rtm_deck.specs.inner.Roles.{role_of}
+use Rattle.rtm_deck.specs.inner.Seen.{after, has_name, insert_name, with_name}
+use Rattle.rtm_deck.specs.inner.Building.{lines_from, programs_from, units_from, commands_from}
+use Rattle.rtm_deck.proofs.Cards.Names.{same_test, has_insert}
 use Rattle.rtm_deck.proofs.Decks.Walk.{Walk}
 use Rattle.rtm_deck.proofs.Decks.Laid.{Facts, facts}
 
@@ -29,14 +31,6 @@ pub same_swapped : (a b : List ℕ) → bytes_eq a b ≡ bytes_eq b a
 same_swapped a b = same_test (bytes_eq a b) (bytes_eq b a)
     (λ e. (bytes_eq-Decides b a).1 (sym ((bytes_eq-Decides a b).0 e)))
     (λ e. (bytes_eq-Decides a b).1 (sym ((bytes_eq-Decides b a).0 e)))
-
-pub or_assoc : (a b c : Bool) → ((a || b) || c) ≡ (a || (b || c))
-or_assoc true b c = refl
-or_assoc false b c = refl
-
-pub append_nil : (xs : List (List ℕ)) → xs ++ [] ≡ xs
-append_nil [] = refl
-append_nil (x ∷ xs) = ap (λ (ys : List (List ℕ)). x ∷ ys) (append_nil xs)
 
 pub inserted : (names : List (List ℕ)) (name : List ℕ) → has_name names name ≡ false → insert_name names name ≡ names ++ name ∷ []
 inserted names name e = rw e refl
@@ -185,15 +179,15 @@ sums_step s x e r rs Command is f m = rw is (command_more s.programs s.units s.t
 
 nothing_more : (s : SeenView) → Sums s.programs s.units s.tasks s.srbs s.commands [] [] [] s
 nothing_more s = record {
-  programs = sym (append_nil s.programs);
-  units = sym (append_nil s.units);
+  programs = sym (append-nil s.programs);
+  units = sym (append-nil s.units);
   few_programs = λ h. h;
   few_units = λ h. h;
   few_commands = λ h. omega (arith, h);
   distinct_programs = λ h. h;
   distinct_units = λ h. h;
-  tasks = λ name. sym (or_false (has_name s.tasks name));
-  srbs = λ name. sym (or_false (has_name s.srbs name));
+  tasks = λ name. sym (or-false (has_name s.tasks name));
+  srbs = λ name. sym (or-false (has_name s.srbs name));
 }
 
 pub sums : (s x e : SeenView) (cs : List CardText) (rs : List ReadView) → Walk s cs rs e → SumsOf s x rs e

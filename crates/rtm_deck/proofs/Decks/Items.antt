@@ -11,8 +11,7 @@ use Rattle.rtm_deck_operands.specs.declared.value.Value.TheVariants as values
 use Rattle.rtm_deck_operands.specs.declared.slot.Kind.TheVariants as kinds
 use Rattle.rtm_deck_operands.specs.declared.slot.NameOf.TheVariants as names
 use Rattle.rtm_deck_operands.specs.declared.slot.Slot.{Slot}
-use Rattle.rtm_deck_operands.specs.Name.{padded_text, trimmed_text, is_padded_name}
-use Rattle.rtm_deck_operands.specs.Reading.{name_in}
+use Rattle.rtm_deck_operands.specs.Name.{padded_text, trimmed_text, is_padded_name, name_in}
 use Rattle.rtm_deck_operands.specs.Slot.{SpellsSlots, slot_fits, slots_fit, slot_is_well_made, optional_slot}
 use Rattle.rtm_deck_operands.proofs.Names.{trimmed_text-padded_text, is_padded-padded_text}
 use Rattle.rtm_deck_operands.proofs.SlotReading.{slots_fit-spelled, table_parts}
@@ -28,11 +27,11 @@ use Rattle.rtm_deck_items.specs.WellFormed.{is_program, is_task_in, is_related, 
 use Rattle.rtm_deck_spelling.proofs.Forms.{form_is_well_made}
 use Rattle.rtm_deck.specs.declared.role.Role.{Role}
 use Rattle.rtm_deck.specs.declared.role.Role.TheVariants.{Task, Srb, Command, Line}
-use Rattle.rtm_deck.specs.View.{ReadView, SeenView, Refusal}
-use Rattle.rtm_deck.specs.Roles.{role_of, is_line, is_misnamed_role}
-use Rattle.rtm_deck.specs.References.{unfound, first_unfound, nameless_or}
-use Rattle.rtm_deck.specs.Operations.{no_name, named_number_in, named_number_at, number_at, flag_at, value_at, op_of}
-use Rattle.rtm_deck.specs.Building.{unit_of}
+use Rattle.rtm_deck.specs.inner.View.{ReadView, SeenView, Refusal}
+use Rattle.rtm_deck.specs.inner.Roles.{role_of, is_line, is_misnamed_role}
+use Rattle.rtm_deck.specs.inner.References.{unfound, first_unfound, nameless_or}
+use Rattle.rtm_deck.specs.inner.Operations.{no_name, named_number_in, named_number_at, number_at, flag_at, value_at, op_of}
+use Rattle.rtm_deck.specs.inner.Building.{unit_of}
 use Rattle.rtm_deck.proofs.Cards.ReadCards.{or_None}
 use Rattle.rtm_deck.proofs.Decks.Walk.{Step}
 use Rattle.rtm_deck.proofs.Decks.Operations.{Places, FindsEach, found, for_shapes, cons, number_said, number_most, flag_said, program_said, program_there, task_said, task_there, Said, said}

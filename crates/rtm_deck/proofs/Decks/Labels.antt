@@ -3,29 +3,31 @@ use Rattle.std.proofs.Common.{◌≡◌, ℕ, Bool, true, false, ◌||◌, List,
 use Rattle.std.specs.Prelude.{IsTrue, bytes_eq, ◌==◌, if◌then◌else◌}
 use Rattle.std.specs.Option.{option_map_or}
 use Rattle.std.specs.List.{list_any}
+use Rattle.std.proofs.Math.Bool.{or-false, or_assoc}
+use Rattle.std.proofs.lemmas.List.{append-nil}
 use Rattle.rtm_cards.specs.Cards.{CardText}
 use Rattle.rtm_deck_items.specs.declared.deck.Line.{Line as LineCard}
 use Rattle.rtm_deck_items.specs.View.{ProgramView}
 use Rattle.rtm_deck_items.specs.WellFormed.{are_distinct, labels_in, has_label}
 use Rattle.rtm_deck.specs.declared.role.Role.{Role}
 use Rattle.rtm_deck.specs.declared.role.Role.TheVariants.{Region, Program, ProgramEnd, Task, Srb, Commands, Command, End, Line}
-use Rattle.rtm_deck.specs.View.{ReadView, SeenView}
-use Rattle.rtm_deck.specs.Roles.{role_of, is_line}
-use Rattle.rtm_deck.specs.Seen.{after, has_name, insert_name, with_name}
-use Rattle.rtm_deck.specs.References.{labels_onto}
-use Rattle.rtm_deck.specs.Building.{line_of, lines_from, programs_from}
-use Rattle.rtm_deck.proofs.Cards.Names.{has_insert, or_false}
+use Rattle.rtm_deck.specs.inner.View.{ReadView, SeenView}
+use Rattle.rtm_deck.specs.inner.Roles.{role_of, is_line}
+use Rattle.rtm_deck.specs.inner.Seen.{after, has_name, insert_name, with_name}
+use Rattle.rtm_deck.specs.inner.References.{labels_onto}
+use Rattle.rtm_deck.specs.inner.Building.{line_of, lines_from, programs_from}
+use Rattle.rtm_deck.proofs.Cards.Names.{has_insert}
 use Rattle.rtm_deck.proofs.Cards.SeenCards.{is_line_role}
 use Rattle.rtm_deck.proofs.Decks.Walk.{Walk}
 use Rattle.rtm_deck.proofs.Decks.Laid.{Facts, facts, walk_ended}
-use Rattle.rtm_deck.proofs.Decks.Counts.{same_swapped, or_assoc, append_nil, inserted, distinct_more}
+use Rattle.rtm_deck.proofs.Decks.Counts.{same_swapped, inserted, distinct_more}
 
 -- a name is among the labels behind a card where it was before, or is the card's
 abbrev labels : Option (List ℕ) → List ℕ → Bool
 labels o name = option_map_or (λ own. bytes_eq own name) o false
 
 has_labels : (names : List (List ℕ)) (o : Option (List ℕ)) (name : List ℕ) → has_name (with_name names o) name ≡ (has_name names name || labels o name)
-has_labels names None name = sym (or_false (has_name names name))
+has_labels names None name = sym (or-false (has_name names name))
 has_labels names (Some own) name = has_insert names own name ∙ ap (λ (b : Bool). has_name names name || b) (same_swapped name own)
 
 -- the labels of the program that is open
@@ -69,8 +71,8 @@ label_step s x e name r rs true i Line is f m =
     ∙ four (has_name s.labels name) (labels r.name name) (has_label name (lines_from x rs)) (in_some name (programs_from x rs))))
 
 nothing_open : (b : Bool) (s : SeenView) (name : List ℕ) → has_name s.labels name ≡ (has_name s.labels name || (open_label b name [] || false))
-nothing_open true s name = sym (or_false (has_name s.labels name))
-nothing_open false s name = sym (or_false (has_name s.labels name))
+nothing_open true s name = sym (or-false (has_name s.labels name))
+nothing_open false s name = sym (or-false (has_name s.labels name))
 
 -- each label that is seen was seen before, or is one of the open program, or of another
 pub labels_seen : (b : Bool) (s x e : SeenView) (name : List ℕ) (cs : List CardText) (rs : List ReadView) → s.inside ≡ b → Walk s cs rs e → Labels b s x name rs e
@@ -82,13 +84,13 @@ labels_seen b s x e name (c ∷ cs) (r ∷ rs) i w =
 
 -- the labels of a program's cards are among those that were there, or the cards carry them
 pub own_carried : (x : SeenView) (own : List (List ℕ)) (name : List ℕ) (rs : List ReadView) → has_name (labels_onto own rs) name ≡ (has_name own name || has_label name (lines_from x rs))
-own_carried x own name [] = sym (or_false (has_name own name))
+own_carried x own name [] = sym (or-false (has_name own name))
 own_carried x own name (r ∷ rs) = go (is_line (role_of r.form)) refl (own_carried x (with_name own r.name) name rs)
   where
     go : (b : Bool) → is_line (role_of r.form) ≡ b → has_name (labels_onto (with_name own r.name) rs) name ≡ (has_name (with_name own r.name) name || has_label name (lines_from x rs))
         → has_name (if b then labels_onto (with_name own r.name) rs else own) name ≡ (has_name own name || has_label name (if b then line_of x r ∷ lines_from x rs else []))
     go true e more = more ∙ (ap (λ (t : Bool). t || has_label name (lines_from x rs)) (has_labels own r.name name) ∙ or_assoc (has_name own name) (labels r.name name) (has_label name (lines_from x rs)))
-    go false e more = sym (or_false (has_name own name))
+    go false e more = sym (or-false (has_name own name))
 
 -- one label more, if there is one
 abbrev labels_then : Option (List ℕ) → List (List ℕ) → List (List ℕ)
@@ -110,7 +112,7 @@ single_of s o role e f = (subst (λ (ρ : Role). Facts s ρ o) e f).single
 
 -- the labels of a program are distinct
 pub distinct_labels : (s x e : SeenView) (cs : List CardText) (rs : List ReadView) → Walk s cs rs e → IsTrue (are_distinct s.own) → IsTrue (are_distinct (s.own ++ labels_in (lines_from x rs)))
-distinct_labels s x e [] [] w d = subst (λ (xs : List (List ℕ)). IsTrue (are_distinct xs)) (sym (append_nil s.own)) d
+distinct_labels s x e [] [] w d = subst (λ (xs : List (List ℕ)). IsTrue (are_distinct xs)) (sym (append-nil s.own)) d
 distinct_labels s x e (c ∷ cs) [] w d = absurd w
 distinct_labels s x e [] (r ∷ rs) w d = absurd w
 distinct_labels s x e (c ∷ cs) (r ∷ rs) w d = go (is_line (role_of r.form)) refl (distinct_labels (after s (role_of r.form) r.name) x e cs rs w.1)
@@ -123,7 +125,7 @@ distinct_labels s x e (c ∷ cs) (r ∷ rs) w d = go (is_line (role_of r.form)) 
         let same = own_of s r.name (role_of r.form) is in
         distinct_label s.own (labels_in (lines_from x rs)) r.name d (single_of s r.name (role_of r.form) is (facts s c r w.0))
         (λ h. subst (λ (xs : List (List ℕ)). IsTrue (are_distinct (xs ++ labels_in (lines_from x rs)))) same (more (subst (λ (xs : List (List ℕ)). IsTrue (are_distinct xs)) (sym same) h)))
-    go false e more = subst (λ (xs : List (List ℕ)). IsTrue (are_distinct xs)) (sym (append_nil s.own)) d
+    go false e more = subst (λ (xs : List (List ℕ)). IsTrue (are_distinct xs)) (sym (append-nil s.own)) d
 
 task_step : (s e : SeenView) (cs : List CardText) (name : Option (List ℕ)) (rs : List ReadView) (role : Role) → Facts s role name → Walk (after s role name) cs rs e
     → ((after s role name).ended ≡ false → (length e.tasks == 0) ≡ false) → (length e.tasks == 0) ≡ false

@@ -11,11 +11,11 @@ use Rattle.rtm_deck_items.specs.Spelling.{programs_in, units_in}
 use Rattle.rtm_deck_spelling.proofs.LaidOut.{lines_then, blocks_then, commands_then_end, closing}
 use Rattle.rtm_deck.specs.declared.role.Role.{Role}
 use Rattle.rtm_deck.specs.declared.role.Role.TheVariants.{Region, Program, ProgramEnd, Task, Srb, Commands, Command, End, Line}
-use Rattle.rtm_deck.specs.View.{ReadView, SeenView}
-use Rattle.rtm_deck.specs.Roles.{role_of, is_inside_role, is_misnamed_role}
-use Rattle.rtm_deck.specs.Seen.{after, is_unordered, is_doubled_name, is_beyond, lacks_task_role}
-use Rattle.rtm_deck.specs.Operations.{no_name, named_number_in, named_number_at, number_at, flag_at, value_at}
-use Rattle.rtm_deck.specs.Building.{line_of, lines_from, program_of, programs_from, unit_of, units_from, commands_from, region_from}
+use Rattle.rtm_deck.specs.inner.View.{ReadView, SeenView}
+use Rattle.rtm_deck.specs.inner.Roles.{role_of, is_inside_role, is_misnamed_role}
+use Rattle.rtm_deck.specs.inner.Seen.{after, is_unordered, is_doubled_name, is_beyond, lacks_task_role}
+use Rattle.rtm_deck.specs.inner.Operations.{no_name, named_number_in, named_number_at, number_at, flag_at, value_at}
+use Rattle.rtm_deck.specs.inner.Building.{line_of, lines_from, program_of, programs_from, unit_of, units_from, commands_from, region_from}
 use Rattle.rtm_deck.proofs.Decks.Walk.{Step, Walk}
 
 -- what holds of a card of that role and name that breaks no rule

@@ -22,11 +22,11 @@ use Rattle.rtm_deck_items.specs.Forms.{slots_of, needs_some}
 use Rattle.rtm_deck_items.specs.View.{DeckView}
 use Rattle.rtm_deck_items.specs.Items.{some, program_name, unit_name, form_of_op, values_of_op}
 use Rattle.rtm_deck_items.specs.WellFormed.{is_code, is_abend_code, is_reason, is_setrp_rc, is_setrp_code, is_program, is_task_in, is_srb_in, is_own_label, is_retry_label, has_label, has_label_anywhere, is_op}
-use Rattle.rtm_deck.specs.View.{SeenView}
-use Rattle.rtm_deck.specs.Roles.{role_of, is_line}
-use Rattle.rtm_deck.specs.Seen.{has_name}
-use Rattle.rtm_deck.specs.References.{unfound}
-use Rattle.rtm_deck.specs.Operations.{flag_in, number_in, reason_in, code_in, name_in, three_in, class_in, narrow, index_in, named_number_in, no_name, op_of}
+use Rattle.rtm_deck.specs.inner.View.{SeenView}
+use Rattle.rtm_deck.specs.inner.Roles.{role_of, is_line}
+use Rattle.rtm_deck.specs.inner.Seen.{has_name}
+use Rattle.rtm_deck.specs.inner.References.{unfound}
+use Rattle.rtm_deck.specs.inner.Operations.{flag_in, number_in, reason_in, code_in, name_in, three_in, class_in, narrow, index_in, named_number_in, no_name, op_of}
 
 -- Names that are there have the numbers of what they name.
 pub record Places (e : SeenView) (d : DeckView) : Type 0 where

@@ -13,9 +13,9 @@ use Rattle.rtm_deck_items.specs.Reading.{is_task_card}
 use Rattle.rtm_deck_items.specs.View.{ProgramView, DeckView}
 use Rattle.rtm_deck_items.specs.Items.{program_name, unit_name}
 use Rattle.rtm_deck_items.specs.WellFormed.{are_distinct, has_label_anywhere}
-use Rattle.rtm_deck.specs.View.{SeenView}
-use Rattle.rtm_deck.specs.Seen.{has_name}
-use Rattle.rtm_deck.specs.Operations.{index_in}
+use Rattle.rtm_deck.specs.inner.View.{SeenView}
+use Rattle.rtm_deck.specs.inner.Seen.{has_name}
+use Rattle.rtm_deck.specs.inner.Operations.{index_in}
 use Rattle.rtm_deck.proofs.Decks.Operations.{Places}
 use Rattle.rtm_deck.proofs.Decks.Counts.{names_of_programs, names_of_units, is_task_named, is_srb_named}
 

@@ -29,13 +29,13 @@ use Rattle.rtm_deck_spelling.proofs.LaidOut.{lines_then, blocks_then, commands_t
 use Rattle.rtm_deck_spelling.proofs.NoFormFault.{cut_from_one}
 use Rattle.rtm_deck.specs.declared.role.Role.{Role}
 use Rattle.rtm_deck.specs.declared.role.Role.TheVariants.{Region}
-use Rattle.rtm_deck.specs.View.{ReadView, SeenView, ScanView, Refusal}
-use Rattle.rtm_deck.specs.Roles.{role_of}
-use Rattle.rtm_deck.specs.Seen.{nothing_seen, after, has_name}
-use Rattle.rtm_deck.specs.References.{first_nameless, refusal}
-use Rattle.rtm_deck.specs.Operations.{number_at}
-use Rattle.rtm_deck.specs.Building.{programs_from, units_from, commands_from, region_from, deck_of}
-use Rattle.rtm_deck.specs.Reader.{scan_of, scan, deck_if_named, why_unended, deck_if_ended, deck_or_fault, read_cards}
+use Rattle.rtm_deck.specs.inner.View.{ReadView, SeenView, ScanView, Refusal}
+use Rattle.rtm_deck.specs.inner.Roles.{role_of}
+use Rattle.rtm_deck.specs.inner.Seen.{nothing_seen, after, has_name}
+use Rattle.rtm_deck.specs.inner.References.{first_nameless, refusal}
+use Rattle.rtm_deck.specs.inner.Operations.{number_at}
+use Rattle.rtm_deck.specs.inner.Building.{programs_from, units_from, commands_from, region_from, deck_of}
+use Rattle.rtm_deck.specs.inner.Reader.{scan_of, scan, deck_if_named, why_unended, deck_if_ended, deck_or_fault, read_cards}
 use Rattle.rtm_deck.proofs.Cards.Names.{eq_refl}
 use Rattle.rtm_deck.proofs.Decks.Walk.{Walk, walked}
 use Rattle.rtm_deck.proofs.Decks.Operations.{for_shapes, number_least, number_most, Places}

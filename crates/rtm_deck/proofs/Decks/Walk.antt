@@ -2,17 +2,17 @@
 use Rattle.std.proofs.Common.{◌≡◌, ℕ, Bool, true, false, not, List, [], ◌∷◌, ◌++◌, Option, Some, None, is_some, refl, ap, sym, subst, ◌∙◌, append_assoc}
 use Rattle.std.specs.Prelude.{Result, Ok, Err, if◌then◌else◌}
 use Rattle.rtm_cards.specs.Cards.{CardText}
-use Rattle.rtm_deck_operands.specs.Reading.{name_in}
+use Rattle.rtm_deck_operands.specs.Name.{name_in}
 use Rattle.rtm_deck_items.specs.declared.why.Why.{Why}
 use Rattle.rtm_deck_items.specs.declared.why.Why.TheVariants.{BadCard, WrongPlace, BadOperand, DuplicateName, OverLimit, NoJobStep}
 use Rattle.rtm_deck_items.specs.declared.form.CardForm.{CardForm}
 use Rattle.rtm_deck_items.specs.Forms.{operation_of, all_forms, form_named}
 use Rattle.rtm_deck_items.specs.Spelling.{SpellsForm}
 use Rattle.rtm_deck.specs.declared.role.Role.{Role}
-use Rattle.rtm_deck.specs.View.{ReadView, SeenView, ScanView}
-use Rattle.rtm_deck.specs.Roles.{role_of, is_misnamed_role}
-use Rattle.rtm_deck.specs.Seen.{after, is_misplaced_role, is_doubled_name, is_beyond, lacks_task_role, broken_rule, SaidView, reading_by, read_with, read_known, read_card}
-use Rattle.rtm_deck.specs.Reader.{scan_of, scan_on, scan}
+use Rattle.rtm_deck.specs.inner.View.{ReadView, SeenView, ScanView}
+use Rattle.rtm_deck.specs.inner.Roles.{role_of, is_misnamed_role}
+use Rattle.rtm_deck.specs.inner.Seen.{after, is_misplaced_role, is_doubled_name, is_beyond, lacks_task_role, broken_rule, SaidView, reading_by, read_with, read_known, read_card}
+use Rattle.rtm_deck.specs.inner.Reader.{scan_of, scan_on, scan}
 use Rattle.rtm_deck.proofs.Cards.ReadCards.{said_found, role_is}
 
 -- The card is read so, and breaks no rule behind what was seen.

@@ -4,6 +4,8 @@ use Rattle.std.specs.Prelude.{codes, Result, Ok, Err, MatchOption, nat_lt, slice
 use Rattle.std.specs.List.{list_any}
 use Rattle.std.proofs.lemmas.Bool.{cases_lt, le-ltb}
 use Rattle.std.proofs.lemmas.List.{take-append-drop}
+use Rattle.std.proofs.Math.Bool.{or-false}
+use Rattle.std.proofs.Math.Seq.{take-length}
 use Rattle.rtm_cards.specs.declared.fault.CutFault.{CutFault}
 use Rattle.rtm_cards.specs.declared.fault.CutWhy.{CutWhy}
 use Rattle.rtm_cards.specs.Limits.{most_bytes}
@@ -14,11 +16,10 @@ use Rattle.rtm_cards.specs.Faults.{NoCutFault, FirstCutFault, HasNoFault, lines_
 use Rattle.rtm_cards.specs.Faults.{IsFirstFault as IsFirstCutFault}
 use Rattle.rtm_deck_items.specs.declared.why.Why.TheVariants.{NoJobStep, NoEnd}
 use Rattle.rtm_deck_items.specs.Faults.{is_called, has_operation, with_line, why_of_cut, HasFault, FormFault, LacksEnd, LacksName, LinesFault, IsFirstFault}
-use Rattle.rtm_deck.specs.View.{SeenView, ScanView, Refusal}
-use Rattle.rtm_deck.specs.Seen.{nothing_seen}
-use Rattle.rtm_deck.specs.References.{refusal, first_nameless}
-use Rattle.rtm_deck.specs.Reader.{scan, why_unended, deck_if_named, deck_or_fault, read_cards}
-use Rattle.rtm_deck.proofs.Cards.Names.{or_false}
+use Rattle.rtm_deck.specs.inner.View.{SeenView, ScanView, Refusal}
+use Rattle.rtm_deck.specs.inner.Seen.{nothing_seen}
+use Rattle.rtm_deck.specs.inner.References.{refusal, first_nameless}
+use Rattle.rtm_deck.specs.inner.Reader.{scan, why_unended, deck_if_named, deck_or_fault, read_cards}
 use Rattle.rtm_deck.proofs.Cards.SeenCards.{Sees, sees_none}
 use Rattle.rtm_deck.proofs.Faults.OfForm.{AreCut, behind, Scanned, ScanLaw, scan_law}
 use Rattle.rtm_deck.proofs.Faults.OfNames.{SeesAll}
@@ -51,7 +52,7 @@ any_behind test earlier number (line ∷ lines) =
     any_line test earlier number line lines (is_ignored line) refl (any_behind test earlier (number + 1) lines) (any_behind test (card_of number line ∷ earlier) (number + 1) lines)
 
 any_all : (test : CardText → Bool) (lines : List (List ℕ)) → list_any test (behind [] 1 lines) ≡ list_any test (cards_from 1 lines)
-any_all test lines = any_behind test [] 1 lines ∙ or_false (list_any test (cards_from 1 lines))
+any_all test lines = any_behind test [] 1 lines ∙ or-false (list_any test (cards_from 1 lines))
 
 -- what was seen on all cards
 pub sees_all : (s : SeenView) (lines : List (List ℕ)) → Sees s (behind [] 1 lines) → SeesAll s (cards_from 1 lines)
@@ -76,10 +77,6 @@ drop_at : (lines : List (List ℕ)) (n : ℕ) → n < length lines → (rest : L
 drop_at [] n below = absurd (omega (arith, below))
 drop_at (line ∷ lines) zero below = (lines, refl)
 drop_at (line ∷ lines) (suc n) below = drop_at lines n (omega (arith, below))
-
-pub take_all : (lines : List (List ℕ)) → take (length lines) lines ≡ lines
-take_all [] = refl
-take_all (line ∷ lines) = ap (λ l. line ∷ l) (take_all lines)
 
 -- a scan up to a fault of cutting
 cut_refusal : (lines others : List (List ℕ)) (line : List ℕ) (card : ℕ) (broken : CutWhy) (t : Result ScanView Refusal) (r : Refusal) → ScanLaw [] 1 lines [] t → card ≡ 1 + length lines → fault_of card line ≡ Some broken
@@ -145,7 +142,7 @@ cut_lines_refusal lines f r h e =
     (omega (arith, is, h.counted)) h.broken (subst (λ (m : ℕ). deck_or_fault m (Some f) (scan [] nothing_seen (cards_from 1 front)) ≡ Err r) (sym is) e))
 
 cut_all : (lines : List (List ℕ)) → NoCutFault lines → AreCut 1 lines
-cut_all lines h = subst (λ (l : List (List ℕ)). AreCut 1 l) (take_all lines)
+cut_all lines h = subst (λ (l : List (List ℕ)). AreCut 1 l) (take-length lines)
     (cut_to (length lines) lines 1 (omega arith) (λ k few. subst (λ (m : ℕ). fault_of (1 + k) (slice_index_or lines m []) ≡ None) (omega arith) (h (1 + k) (omega arith) (omega (arith, few)))))
 
 -- an input that is refused, by its size
@@ -168,7 +165,7 @@ refusal_law bytes None r h e = record {
   by_size = λ long. absurd (omega (arith, long, h.size));
   by_card = λ few.
       let lines = lines_of bytes in
-      let read = subst (λ (l : List (List ℕ)). read_cards (cards_from 1 l) (length lines) None ≡ Err r) (take_all lines) e in
+      let read = subst (λ (l : List (List ℕ)). read_cards (cards_from 1 l) (length lines) None ≡ Err r) (take-length lines) e in
       whole_refusal lines (scan [] nothing_seen (cards_from 1 lines)) r (scan_law lines 1 [] [] nothing_seen (cut_all lines h.cards) sees_none) read;
 }
 refusal_law bytes (Some f) r h e = elim (cases_lt most_bytes (length bytes)) [

@@ -8,11 +8,11 @@ use Rattle.rtm_cards.specs.Cards.{CardText, card_of, cards_from}
 use Rattle.rtm_cards.proofs.CardForm.{card_form}
 use Rattle.rtm_deck_items.specs.declared.why.Why.{Why}
 use Rattle.rtm_deck_items.specs.Faults.{is_in_program, HasFault, HasNone, with_line, FormFault, NoFormFault, BreaksFirst, BreaksNone, rules}
-use Rattle.rtm_deck.specs.View.{SeenView, ReadView, ScanView, Refusal}
-use Rattle.rtm_deck.specs.Roles.{role_of, is_inside_role}
-use Rattle.rtm_deck.specs.Seen.{after, read_card}
-use Rattle.rtm_deck.specs.References.{refusal}
-use Rattle.rtm_deck.specs.Reader.{scan, scan_on}
+use Rattle.rtm_deck.specs.inner.View.{SeenView, ReadView, ScanView, Refusal}
+use Rattle.rtm_deck.specs.inner.Roles.{role_of, is_inside_role}
+use Rattle.rtm_deck.specs.inner.Seen.{after, read_card}
+use Rattle.rtm_deck.specs.inner.References.{refusal}
+use Rattle.rtm_deck.specs.inner.Reader.{scan, scan_on}
 use Rattle.rtm_deck.proofs.Cards.SeenCards.{Sees, CallsAs}
 use Rattle.rtm_deck.proofs.Cards.SeenAfter.{sees_after}
 use Rattle.rtm_deck.proofs.Cards.ReadCards.{ReadAs, Accepts, CardLaw, card_law}
@@ -41,8 +41,8 @@ ReadEach earlier [] (r ∷ rs) = ⊥
 ReadEach earlier (c ∷ cs) [] = ⊥
 ReadEach earlier (c ∷ cs) (r ∷ rs) = ReadHere earlier c r × ReadEach (c ∷ earlier) cs rs
 
--- What an answer over some lines says: a refusal is their first fault of form, whatever follows them; else there is none, and a
--- fault of form of what follows is the first.
+-- What an answer over some lines says: a refusal is their first fault of form, whatever follows them; else there is
+-- none, and a fault of form of what follows is the first.
 pub record Scanned (earlier : List CardText) (number : ℕ) (lines : List (List ℕ)) (before : List ReadView) (t : ScanView) : Type 0 where
   pub sees : Sees t.seen (behind earlier number lines)
   pub none : NoFormFault earlier number lines

@@ -23,16 +23,12 @@ use Rattle.rtm_deck_items.specs.Spelling.{SpellsOperands}
 use Rattle.rtm_deck_items.specs.Faults.{is_called, is_named, is_found, why_of_name, IsUnfound, NamesUnfound, HasNameFault}
 use Rattle.rtm_deck_spelling.proofs.Forms.{for_each_test, form_is_well_made, one_form, one_values}
 use Rattle.rtm_deck.specs.declared.role.Role.TheVariants as roles
-use Rattle.rtm_deck.specs.View.{SeenView, ReadView}
-use Rattle.rtm_deck.specs.Roles.{role_of, is_line}
-use Rattle.rtm_deck.specs.Seen.{has_name}
-use Rattle.rtm_deck.specs.References.{finds, unfound, first_unfound}
+use Rattle.rtm_deck.specs.inner.View.{SeenView, ReadView}
+use Rattle.rtm_deck.specs.inner.Roles.{role_of, is_line}
+use Rattle.rtm_deck.specs.inner.Seen.{has_name}
+use Rattle.rtm_deck.specs.inner.References.{finds, unfound, first_unfound}
 use Rattle.rtm_deck.proofs.Cards.SeenCards.{Holds, is_text, is_line_role}
 use Rattle.rtm_deck.proofs.Cards.ReadCards.{ReadAs}
-
-pub or_assoc : (a b c : Bool) → ((a || b) || c) ≡ (a || (b || c))
-or_assoc true b c = refl
-or_assoc false b c = refl
 
 -- The values' names are names with their padding.
 

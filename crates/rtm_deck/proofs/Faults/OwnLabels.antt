@@ -4,6 +4,7 @@ use Rattle.std.specs.Prelude.{◌⊎◌, bytes_eq, codes, IsTrue, take_while, if
 use Rattle.std.specs.List.{list_any}
 use Rattle.std.proofs.lemmas.List.Folds.{list_any-append}
 use Rattle.std.proofs.lemmas.List.Sums.{take_while-cons}
+use Rattle.std.proofs.Math.Bool.{or-false, or_comm, or_assoc}
 use Rattle.rtm_cards.specs.Cards.{CardText}
 use Rattle.rtm_deck_operands.specs.Name.{trimmed_text, is_padded_name}
 use Rattle.rtm_deck_items.specs.declared.why.Why.{Why}
@@ -12,14 +13,14 @@ use Rattle.rtm_deck_items.specs.Faults.{is_called, is_named, is_in_program, sinc
 use Rattle.rtm_deck_spelling.proofs.Behind.{closed, stays, since_start, since_more}
 use Rattle.rtm_deck.specs.declared.role.Role.{Role}
 use Rattle.rtm_deck.specs.declared.role.Role.TheVariants.{Region, Program, ProgramEnd, Task, Srb, Commands, Command, End, Line}
-use Rattle.rtm_deck.specs.View.{SeenView, ReadView, Refusal}
-use Rattle.rtm_deck.specs.Roles.{role_of, is_line, is_program_role, is_inside_role}
-use Rattle.rtm_deck.specs.Seen.{has_name, with_name}
-use Rattle.rtm_deck.specs.References.{first_unfound, labels_onto, own_labels, nameless_or, first_nameless, refusal}
-use Rattle.rtm_deck.proofs.Cards.Names.{has_with, or_false, or_swap}
+use Rattle.rtm_deck.specs.inner.View.{SeenView, ReadView, Refusal}
+use Rattle.rtm_deck.specs.inner.Roles.{role_of, is_line, is_program_role, is_inside_role}
+use Rattle.rtm_deck.specs.inner.Seen.{has_name, with_name}
+use Rattle.rtm_deck.specs.inner.References.{first_unfound, labels_onto, own_labels, nameless_or, first_nameless, refusal}
+use Rattle.rtm_deck.proofs.Cards.Names.{has_with}
 use Rattle.rtm_deck.proofs.Cards.SeenCards.{CallsAs}
 use Rattle.rtm_deck.proofs.Faults.OfForm.{ReadHere, ReadEach}
-use Rattle.rtm_deck.proofs.Faults.OfNames.{SeesAll, CardNames, card_names, OwnAre, or_assoc}
+use Rattle.rtm_deck.proofs.Faults.OfNames.{SeesAll, CardNames, card_names, OwnAre}
 
 abbrev not_pend : CardText → Bool
 not_pend other = not (is_called (codes "PEND") other)
@@ -63,12 +64,12 @@ onto_end : (names : List (List ℕ)) (earlier : List CardText) (c : CardText) (c
 onto_end names earlier c cs r rs h role name is =
     let calls = subst (λ (x : Role). CallsAs c x) role h.calls in
     ap (λ b. has_name (if b then labels_onto (with_name names r.name) rs else names) name) (ap is_line role)
-    ∙ sym (or_false (has_name names name))
+    ∙ sym (or-false (has_name names name))
     ∙ ap (λ l. has_name names name || list_any (is_named (trimmed_text name)) l) (sym (rest_ends c cs calls.is_pend))
 
 -- the labels that are gathered behind PROG are those of the cards up to PEND
 onto : (later : List CardText) (rs : List ReadView) (earlier : List CardText) (names : List (List ℕ)) → ReadEach earlier later rs → is_in_program earlier ≡ true → Onto names rs later
-onto [] [] earlier names each inside = λ name is. sym (or_false (has_name names name))
+onto [] [] earlier names each inside = λ name is. sym (or-false (has_name names name))
 onto [] (r ∷ rs) earlier names each inside = absurd each
 onto (c ∷ cs) [] earlier names each inside = absurd each
 onto (c ∷ cs) (r ∷ rs) earlier names each inside = elim (inside_only (role_of r.form) (sym inside ∙ each.0.placed)) [
@@ -86,7 +87,7 @@ any_moved : (test : CardText → Bool) (c : CardText) (xs ys : List CardText) �
 any_moved test c xs ys =
     list_any-append test xs (c ∷ ys)
     ∙ sym (or_assoc (list_any test xs) (test c) (list_any test ys))
-    ∙ ap (λ b. b || list_any test ys) (or_swap (list_any test xs) (test c))
+    ∙ ap (λ b. b || list_any test ys) (or_comm (list_any test xs) (test c))
     ∙ or_assoc (test c) (list_any test xs) (list_any test ys)
     ∙ ap (λ b. test c || b) (sym (list_any-append test xs ys))
 

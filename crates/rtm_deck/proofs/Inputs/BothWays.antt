@@ -1,6 +1,7 @@
 -- What is spelled is read, and each input spells a deck or has a first fault.
 use Rattle.std.proofs.Common.{◌≡◌, ℕ, List, [], take, length, Some, None, refl, sym, subst, inl, inr, ap}
 use Rattle.std.specs.Prelude.{◌⊎◌, ◌↔◌, Result, Ok, Err, IfOk, IfErr}
+use Rattle.std.proofs.Math.Seq.{take-length}
 use Rattle.rtm_cards.specs.Lines.{lines_of}
 use Rattle.rtm_cards.specs.Cards.{cards_from}
 use Rattle.rtm_cards.specs.Faults.{HasNoFault, lines_before}
@@ -18,11 +19,11 @@ use Rattle.rtm_deck_spelling.proofs.FirstFault.{one_fault_of_input}
 use Rattle.rtm_deck_canon.proofs.CanonLaws.{canon_short, canon_spells}
 use Rattle.rtm_deck.specs.declared.fault.DeckFault.{DeckFault}
 use Rattle.rtm_deck.specs.declared.fault.DeckFault.TheVariants.{Memory, Refused}
-use Rattle.rtm_deck.specs.View.{Refusal}
-use Rattle.rtm_deck.specs.Seen.{nothing_seen}
-use Rattle.rtm_deck.specs.Reader.{read_cards, scan}
+use Rattle.rtm_deck.specs.inner.View.{Refusal}
+use Rattle.rtm_deck.specs.inner.Seen.{nothing_seen}
+use Rattle.rtm_deck.specs.inner.Reader.{read_cards, scan}
 use Rattle.rtm_deck.specs.Refusal.{IsRefusalOf, IsThatDeck, IsThatRefusal}
-use Rattle.rtm_deck.proofs.Faults.FirstFault.{refusal_law, take_all}
+use Rattle.rtm_deck.proofs.Faults.FirstFault.{refusal_law}
 use Rattle.rtm_deck.proofs.Decks.SpelledDeck.{deck_is_spelled}
 use Rattle.rtm_deck.proofs.Inputs.CutInputs.{never_judged}
 
@@ -43,7 +44,7 @@ Either bytes = ((d : DeckView) × DeckText bytes d) ⊎ ((card : ℕ) × (why : 
 without_fault : (bytes : List ℕ) (y : Result DeckView Refusal) → HasNoFault bytes → read_cards (cards_from 1 (lines_of bytes)) (length (lines_of bytes)) None ≡ y → Either bytes
 without_fault bytes (Ok d) h e = inl (d, deck_is_spelled bytes d h e)
 without_fault bytes (Err r) h e =
-    inr (r.card, r.why, refusal_law bytes None r h (subst (λ l. read_cards (cards_from 1 l) (length (lines_of bytes)) None ≡ Err r) (sym (take_all (lines_of bytes))) e))
+    inr (r.card, r.why, refusal_law bytes None r h (subst (λ l. read_cards (cards_from 1 l) (length (lines_of bytes)) None ≡ Err r) (sym (take-length (lines_of bytes))) e))
 
 with_fault : (bytes : List ℕ) (f : CutFault) (y : Result DeckView Refusal) → IsFirstCutFault bytes f
     → read_cards (cards_from 1 (take (lines_before bytes (Some f)) (lines_of bytes))) (lines_before bytes (Some f)) (Some f) ≡ y → Either bytes

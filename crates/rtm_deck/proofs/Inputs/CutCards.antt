@@ -3,6 +3,7 @@ use Rattle.std.proofs.Common.{◌≡◌, sym, ap, subst, refl, ℕ, zero, suc, �
 use Rattle.std.proofs.lemmas.Bool.Decides.{nat_tests}
 use Rattle.std.specs.Prelude.{MatchOption, nat_lt, ◌==◌}
 use Rattle.std.specs.List.{AllByRecursion, onto_first}
+use Rattle.std.proofs.lemmas.List.{length-map}
 use Rattle.rtm_cards.specs.Limits.{most_bytes}
 use Rattle.rtm_cards.specs.Text.{line_feed}
 use Rattle.rtm_cards.specs.Lines.{lines_of}
@@ -60,10 +61,6 @@ pub few_lines : (bytes : List ℕ) (fault : Option CutFault) → MatchOption fau
 few_lines bytes None none = let h = length-lines bytes in let s = none.size in omega (arith, h, s)
 few_lines bytes (Some fault) f = few_before bytes fault f
 
-length-mapped : {X Y : Type 0} (f : X → Y) (xs : List X) → length (map f xs) ≡ length xs
-length-mapped f [] = refl
-length-mapped f (x ∷ xs) = ap suc (length-mapped f xs)
-
 -- and few cards
 pub few_cards : (bytes : List ℕ) (cards : List CardSpans) (lines : ℕ) → lines ≤ most_bytes →
     map (card_text bytes) cards ≡ cards_from 1 (take lines (lines_of bytes)) → length cards ≤ most_bytes
@@ -71,7 +68,7 @@ few_cards bytes cards lines few is =
     let a = length-cards 1 (take lines (lines_of bytes)) in
     let b = length-taken lines (lines_of bytes) in
     let c : length (map (card_text bytes) cards) ≡ length (cards_from 1 (take lines (lines_of bytes))) = ap length is in
-    let d : length (map (card_text bytes) cards) ≡ length cards = length-mapped (card_text bytes) cards in
+    let d : length (map (card_text bytes) cards) ≡ length cards = length-map cards (card_text bytes) in
     omega (arith, a, b, c, d, few)
 
 -- each card has its spans in the bytes

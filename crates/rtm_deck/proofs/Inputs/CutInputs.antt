@@ -1,6 +1,7 @@
 -- What is read is spelled, and what is refused is the first fault.
 use Rattle.std.proofs.Common.{◌≡◌, ℕ, List, take, Option, Some, None, subst}
 use Rattle.std.specs.Prelude.{Result, Ok, Err, length}
+use Rattle.std.proofs.Math.Seq.{take-length}
 use Rattle.rtm_cards.specs.Lines.{lines_of}
 use Rattle.rtm_cards.specs.Cards.{CardText, cards_from}
 use Rattle.rtm_cards.specs.Faults.{lines_before}
@@ -8,15 +9,15 @@ use Rattle.rtm_cards.specs.declared.fault.CutFault.{CutFault}
 use Rattle.rtm_deck_items.specs.View.{DeckView}
 use Rattle.rtm_deck_items.specs.Spelling.{DeckText}
 use Rattle.rtm_deck_items.specs.Faults.{IsFirstFault}
-use Rattle.rtm_deck.specs.View.{Refusal, ScanView}
-use Rattle.rtm_deck.specs.Seen.{nothing_seen}
+use Rattle.rtm_deck.specs.inner.View.{Refusal, ScanView}
+use Rattle.rtm_deck.specs.inner.Seen.{nothing_seen}
 use Rattle.rtm_deck.specs.declared.fault.DeckFault.{DeckFault}
 use Rattle.rtm_deck.specs.declared.fault.DeckFault.TheVariants.{Memory, Refused}
 use Rattle.rtm_deck.specs.Refusal.{IsRefusalOf}
-use Rattle.rtm_deck.specs.References.{refusal}
-use Rattle.rtm_deck.specs.Reader.{read_cards, deck_or_fault, scan, Gives}
+use Rattle.rtm_deck.specs.inner.References.{refusal}
+use Rattle.rtm_deck.specs.inner.Reader.{read_cards, deck_or_fault, scan, Gives}
 use Rattle.rtm_deck.proofs.Inputs.CutCards.{IsCut}
-use Rattle.rtm_deck.proofs.Faults.FirstFault.{refusal_law, take_all}
+use Rattle.rtm_deck.proofs.Faults.FirstFault.{refusal_law}
 use Rattle.rtm_deck.proofs.Decks.SpelledDeck.{deck_is_spelled}
 
 -- the cards and lines of a cut input
@@ -38,7 +39,7 @@ pub read-spelled : (bytes : List ℕ) (cards : List CardText) (lines : ℕ) (fau
 read-spelled bytes cards lines None d cut is =
     let all = lines_of bytes in
     deck_is_spelled bytes d cut.fault_is
-    (subst (λ (l : List (List ℕ)). read_cards (cards_from 1 l) (length all) None ≡ Ok d) (take_all all) (of_cut bytes cards lines None (Ok d) cut is))
+    (subst (λ (l : List (List ℕ)). read_cards (cards_from 1 l) (length all) None ≡ Ok d) (take-length all) (of_cut bytes cards lines None (Ok d) cut is))
 read-spelled bytes cards lines (Some f) d cut is = absurd (never_judged lines f d (scan _ nothing_seen cards) is)
 
 -- a refusal is the first fault

@@ -209,8 +209,8 @@ JOB LEAVE MGR # OVER",
     },
 ];
 
-/// Sixty tasks, each of which meets and retries forty errors in a called program, holds what it got there, and then ends
-/// by an error of its own.
+/// Sixty tasks, each of which meets and retries forty errors in a called program, holds what it got there, and then
+/// ends by an error of its own.
 pub static SIXTY_TASKS: [Part; 10] = [
     Part::Once(
         " REGION LIMIT=100000

@@ -1,5 +1,5 @@
 use Rattle.std.proofs.Common.{◌≡◌, ◌++◌, drop}
-use Rattle.rtm_deck.specs.Building.{commands_from}
+use Rattle.rtm_deck.specs.inner.Building.{commands_from}
 use Rattle.rtm_deck.proofs.build.commands_of.Given as goal
 
 -- with the commands that are left, these are all

@@ -1,5 +1,5 @@
 use Rattle.std.proofs.Common.{◌≡◌, ◌+◌, drop}
-use Rattle.rtm_deck.specs.Building.{line_count}
+use Rattle.rtm_deck.specs.inner.Building.{line_count}
 use Rattle.rtm_deck.proofs.build.line_count.Given as goal
 
 -- with the cards that are left, these are all

@@ -1,5 +1,5 @@
 use Rattle.std.proofs.Common.{◌≡◌, ◌++◌, drop}
-use Rattle.rtm_deck.specs.Building.{lines_from}
+use Rattle.rtm_deck.specs.inner.Building.{lines_from}
 use Rattle.rtm_deck.proofs.build.lines_of.Given as goal
 
 -- with the cards that are left, these are all

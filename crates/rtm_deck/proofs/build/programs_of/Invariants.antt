@@ -1,5 +1,5 @@
 use Rattle.std.proofs.Common.{◌≡◌, ◌++◌, drop}
-use Rattle.rtm_deck.specs.Building.{programs_from}
+use Rattle.rtm_deck.specs.inner.Building.{programs_from}
 use Rattle.rtm_deck.proofs.build.programs_of.Given as goal
 
 -- with the programs that are left, these are all

@@ -1,5 +1,5 @@
 use Rattle.std.proofs.Common.{◌≡◌, ◌++◌, drop}
-use Rattle.rtm_deck.specs.Building.{units_from}
+use Rattle.rtm_deck.specs.inner.Building.{units_from}
 use Rattle.rtm_deck.proofs.build.units_of.Given as goal
 
 -- with the units that are left, these are all

@@ -1,6 +1,6 @@
 use Rattle.std.proofs.Common.{◌≡◌, drop, map}
 use Rattle.rtm_cards.specs.Span.{text_of}
-use Rattle.rtm_deck.specs.Seen.{reading_by}
+use Rattle.rtm_deck.specs.inner.Seen.{reading_by}
 use Rattle.rtm_deck.proofs.card.first_reading.Given as goal
 
 -- what is said by the forms that are left is said by all

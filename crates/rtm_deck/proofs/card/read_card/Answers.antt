@@ -3,10 +3,10 @@ use Rattle.std.specs.Option.{option_map}
 use Rattle.rtm_cards.specs.Span.{text_of}
 use Rattle.rtm_cards.specs.Cards.{card_text}
 use Rattle.rtm_cards.specs.View.{CardSpans}
-use Rattle.rtm_deck_operands.specs.Reading.{name_in}
+use Rattle.rtm_deck_operands.specs.Name.{name_in}
 use Rattle.rtm_deck_items.specs.Forms.{all_forms, form_named}
-use Rattle.rtm_deck.specs.Roles.{role_of}
-use Rattle.rtm_deck.specs.Seen.{reading_in, reading_by}
+use Rattle.rtm_deck.specs.inner.Roles.{role_of}
+use Rattle.rtm_deck.specs.inner.Seen.{reading_in, reading_by}
 use Rattle.rtm_deck.proofs.Cards.ByParts.{read_card-role, read_card-unknown, known_names, read_by_some}
 use Rattle.rtm_deck.proofs.card.read_card.Goals as goal
 

@@ -1,5 +1,5 @@
 use Rattle.std.proofs.Common.{◌≡◌, drop, []}
-use Rattle.rtm_deck.specs.References.{first_nameless}
+use Rattle.rtm_deck.specs.inner.References.{first_nameless}
 use Rattle.rtm_deck.proofs.find.find_names.Given as goal
 
 -- the least card of those that are left is the least of all

@@ -1,5 +1,5 @@
 use Rattle.std.proofs.Common.{◌≡◌, drop}
-use Rattle.rtm_deck.specs.References.{labels_onto}
+use Rattle.rtm_deck.specs.inner.References.{labels_onto}
 use Rattle.rtm_deck.proofs.find.put_labels.Given as goal
 
 -- with the labels of the cards that are left, these are all

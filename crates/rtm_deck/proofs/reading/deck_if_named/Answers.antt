@@ -1,7 +1,7 @@
 use Rattle.std.proofs.Common.{◌≡◌, ◌∙◌, ap, subst, []}
 use Rattle.std.specs.Prelude.{Err}
-use Rattle.rtm_deck.specs.References.{first_nameless}
-use Rattle.rtm_deck.specs.Reader.{Finds}
+use Rattle.rtm_deck.specs.inner.References.{first_nameless}
+use Rattle.rtm_deck.specs.inner.Reader.{Finds}
 use Rattle.rtm_deck.proofs.Calls.Giving.{gives-deck_if_named}
 use Rattle.rtm_deck.proofs.reading.deck_if_named.Goals as goal
 

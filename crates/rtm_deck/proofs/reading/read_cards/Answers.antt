@@ -1,5 +1,5 @@
 use Rattle.std.proofs.Common.{◌≡◌, sym, subst}
-use Rattle.rtm_deck.specs.Reader.{Gives, deck_or_fault}
+use Rattle.rtm_deck.specs.inner.Reader.{Gives, deck_or_fault}
 use Rattle.rtm_deck.proofs.Calls.Giving.{gives-value, gives-deck_or_fault}
 use Rattle.rtm_deck.proofs.reading.read_cards.Goals as goal
 

@@ -1,8 +1,8 @@
 use Rattle.std.proofs.Common.{◌≡◌, ◌∙◌, ap, sym}
 use Rattle.std.specs.Prelude.{Ok}
 use Rattle.rtm_cards.specs.Cards.{card_text}
-use Rattle.rtm_deck.specs.View.{ScanView}
-use Rattle.rtm_deck.specs.Reader.{scan_of, scan_next}
+use Rattle.rtm_deck.specs.inner.View.{ScanView}
+use Rattle.rtm_deck.specs.inner.Reader.{scan_of, scan_next}
 use Rattle.rtm_deck.proofs.Calls.Giving.{given-value, gives-refused}
 use Rattle.rtm_deck.proofs.Calls.Scanning.{scan-read, scan-refused, spans-next, commands-next}
 use Rattle.rtm_deck.proofs.reading.scan_cards.Goals as goal

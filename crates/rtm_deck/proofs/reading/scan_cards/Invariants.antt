@@ -1,8 +1,8 @@
 use Rattle.std.proofs.Common.{◌≡◌, ◌≤◌, drop, map, []}
 use Rattle.std.specs.List.{AllByRecursion}
 use Rattle.rtm_cards.specs.Cards.{card_text, HasSpansIn}
-use Rattle.rtm_deck.specs.Seen.{nothing_seen}
-use Rattle.rtm_deck.specs.Reader.{scan}
+use Rattle.rtm_deck.specs.inner.Seen.{nothing_seen}
+use Rattle.rtm_deck.specs.inner.Reader.{scan}
 use Rattle.rtm_deck.proofs.reading.scan_cards.Given as goal
 
 -- what the cards that are left come to behind those that were read is what all come to

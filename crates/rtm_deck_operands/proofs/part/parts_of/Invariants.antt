@@ -1,6 +1,6 @@
 use Rattle.std.proofs.Common.{◌≡◌, map, take}
 use Rattle.arrayvec.specs.ArrayVec.{array_vec_len}
-use Rattle.rtm_deck_operands.specs.Part.{span_of}
+use Rattle.rtm_deck_operands.specs.inner.Part.{span_of}
 use Rattle.rtm_deck_operands.proofs.part.parts_of.Given as goal
 
 abbrev pub invariant-loop-operand : goal.invariant-loop-operand

@@ -1,8 +1,8 @@
 use Rattle.std.proofs.Common.{◌≡◌, List, ℕ, Bool, true, false, sym, ap, ◌∙◌, get_or}
 use Rattle.rtm_cards.specs.Span.{text_of}
 use Rattle.rtm_deck_operands.specs.declared.part.Part.{Part}
-use Rattle.rtm_deck_operands.specs.Part.{span_of}
-use Rattle.rtm_deck_operands.specs.Reading.{has_key}
+use Rattle.rtm_deck_operands.specs.inner.Part.{span_of}
+use Rattle.rtm_deck_operands.specs.inner.Reading.{has_key}
 use Rattle.rtm_deck_operands.proofs.Loops.{position_found, position_missed, position_end}
 use Rattle.rtm_deck_operands.proofs.read.find_key.Goals as goal
 

@@ -1,7 +1,7 @@
 use Rattle.std.proofs.Common.{◌≡◌, drop}
 use Rattle.std.specs.List.{position_from}
-use Rattle.rtm_deck_operands.specs.Part.{part_texts}
-use Rattle.rtm_deck_operands.specs.Reading.{has_key}
+use Rattle.rtm_deck_operands.specs.inner.Part.{part_texts}
+use Rattle.rtm_deck_operands.specs.inner.Reading.{has_key}
 use Rattle.rtm_deck_operands.proofs.read.find_key.Given as goal
 
 -- Where the first one stands from here on is where the first one stands.

@@ -3,7 +3,7 @@ use Rattle.std.proofs.lemmas.List.{length-map}
 use Rattle.rtm_cards.specs.Span.{text_of}
 use Rattle.rtm_deck_operands.specs.declared.value.Value.{Value}
 use Rattle.rtm_deck_operands.specs.Slot.{SpellsSlots}
-use Rattle.rtm_deck_operands.specs.Reading.{read_slots}
+use Rattle.rtm_deck_operands.specs.inner.Reading.{read_slots}
 use Rattle.rtm_deck_operands.proofs.Loops.{part_texts-spans, AreWithin-spans}
 use Rattle.rtm_deck_operands.proofs.SlotReading.{read-found, read-fits, read-only, many-none, many-read}
 use Rattle.rtm_deck_operands.proofs.read.read_operands.Goals as goal

@@ -1,7 +1,7 @@
 use Rattle.std.proofs.Common.{◌≡◌, ◌++◌, drop, option_map}
 use Rattle.arrayvec.specs.ArrayVec.{array_vec_len}
-use Rattle.rtm_deck_operands.specs.Part.{part_texts, AreWithin}
-use Rattle.rtm_deck_operands.specs.Reading.{read_slots}
+use Rattle.rtm_deck_operands.specs.inner.Part.{part_texts, AreWithin}
+use Rattle.rtm_deck_operands.specs.inner.Reading.{read_slots}
 use Rattle.rtm_deck_operands.proofs.read.read_slots.Given as goal
 
 -- The values so far, with those of the slots to come, are the values of all slots.

@@ -1,8 +1,8 @@
 use Rattle.std.proofs.Common.{◌≡◌, ℕ, ◌<◌, length, ap, Some, List, ◌∙◌, arith}
 use Rattle.rtm_deck_operands.specs.declared.part.Part.{Part}
 use Rattle.rtm_deck_operands.specs.Name.{trimmed_text}
-use Rattle.rtm_deck_operands.specs.Part.{part_texts}
-use Rattle.rtm_deck_operands.specs.Reading.{place_of}
+use Rattle.rtm_deck_operands.specs.inner.Part.{part_texts}
+use Rattle.rtm_deck_operands.specs.inner.Reading.{place_of}
 use Rattle.rtm_deck_operands.proofs.Loops.{taken_there}
 use Rattle.rtm_deck_operands.proofs.read.take_operand.Goals as goal
 

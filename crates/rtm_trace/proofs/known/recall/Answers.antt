@@ -1,6 +1,6 @@
 use Rattle.std.proofs.Common.{◌≡◌, List, ℕ, subst, sym}
 use Rattle.std.proofs.lemmas.Slice.Eq.{bytes_eq-Decides}
-use Rattle.rtm_trace.specs.Known.{IsSaid}
+use Rattle.rtm_trace.specs.inner.Known.{IsSaid}
 use Rattle.rtm_trace.proofs.Remembered.{known_at}
 use Rattle.rtm_trace.proofs.known.recall.Goals as goal
 

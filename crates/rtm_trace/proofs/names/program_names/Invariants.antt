@@ -1,5 +1,5 @@
 use Rattle.std.proofs.Common.{◌≡◌, [], map, drop}
-use Rattle.rtm_trace.specs.Words.{put_names}
+use Rattle.rtm_trace.specs.inner.Words.{put_names}
 use Rattle.rtm_trace.proofs.names.program_names.Given as goal
 
 -- with the names that are left, these are all

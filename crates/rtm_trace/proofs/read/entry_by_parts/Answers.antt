@@ -1,6 +1,6 @@
 use Rattle.std.proofs.Common.{◌≡◌, ◌++◌, IfSome, List, ℕ, Bor, Option, subst, sym, arith}
 use Rattle.rtm_model.specs.declared.entry.What.{What}
-use Rattle.rtm_trace.specs.Known.{IsSaid, index_part}
+use Rattle.rtm_trace.specs.inner.Known.{IsSaid, index_part}
 use Rattle.rtm_trace.proofs.Remembered.{known_line}
 use Rattle.rtm_trace.proofs.read.entry_by_parts.Goals as goal
 

@@ -1,7 +1,7 @@
 use Rattle.std.proofs.Common.{List, ap, arith, length}
 use Rattle.rtm_model.specs.declared.entry.Entry.{Entry}
 use Rattle.rtm_trace.specs.Lines.{text_lines}
-use Rattle.rtm_trace.specs.Reading.{read_on}
+use Rattle.rtm_trace.specs.inner.Reading.{read_on}
 use Rattle.rtm_trace.proofs.read.read_on.Goals as goal
 
 pub lines-init : goal.lines-init

@@ -1,7 +1,7 @@
 use Rattle.std.proofs.Common.{◌≡◌, ◌+◌, ◌≤◌, [], length}
-use Rattle.rtm_trace.specs.Known.{AreKnown}
+use Rattle.rtm_trace.specs.inner.Known.{AreKnown}
 use Rattle.rtm_trace.specs.Lines.{text_lines}
-use Rattle.rtm_trace.specs.Reading.{read_on}
+use Rattle.rtm_trace.specs.inner.Reading.{read_on}
 use Rattle.rtm_trace.proofs.read.read_on.Given as goal
 
 -- Reading on gives what reading from the start gives, and each entry took a byte at least.

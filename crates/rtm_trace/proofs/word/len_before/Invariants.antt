@@ -1,5 +1,5 @@
 use Rattle.std.proofs.Common.{◌≡◌, ◌++◌, take, drop}
-use Rattle.rtm_trace.specs.Words.{before, behind}
+use Rattle.rtm_trace.specs.inner.Words.{before, behind}
 use Rattle.rtm_trace.proofs.word.len_before.Given as goal
 
 -- what was passed, with the front of the rest, is the front, and the same stands behind it

@@ -1,5 +1,5 @@
 use Rattle.std.proofs.Common.{◌≡◌, ◌++◌, take, drop}
-use Rattle.rtm_trace.specs.Words.{word_of, rest_of}
+use Rattle.rtm_trace.specs.inner.Words.{word_of, rest_of}
 use Rattle.rtm_trace.proofs.word.word_len.Given as goal
 
 -- what was passed, with the word in the rest, is the word, and the same stands behind it

@@ -1,0 +1,2 @@
+pub mod MemManager
+pub mod Told

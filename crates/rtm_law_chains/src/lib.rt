@@ -1,0 +1,4 @@
+//! The law of chains: which routines an error enters, in which order, and how it ends.
+#![tactic(auto)]
+
+pub mod laws;
