@@ -226,10 +226,8 @@ def draw_late(drawing: "Drawing", abort: Abort, column: Column) -> None:
     start = start_of(drawing, abort.born, goal)
     if start is None or abort.unit == abort.poster:
         return
-    if start < column.left:
-        goal = column.left + 2
-    else:
-        goal = column.right - 2
+    # (The master may stand in the column of a unit that was done before: then the bar is at the left of its own mark.)
+    goal = column.right - 2 if start > column.right else column.left + 2
     draw_bar(drawing, start, goal, drawing.rows.middle(abort.born))
 
 

@@ -12,6 +12,8 @@ from .diff import diff
 from .doctor import doctor
 from .failures import CANNOT_WRITE, Failure, WRONG_WORDS
 from .lint import lint
+from .moments import read_moments
+from .play import play
 from .sweep import sweep
 from .view import view
 from .why import why
@@ -28,7 +30,7 @@ STATUSES = """exit statuses:
   10  the trace isn't legal; what stands before the first wrong entry is drawn or told
   11  the trace is legal and ends otherwise; it is drawn or told
   16  a file can't be read
-  17  a file can't be written
+  17  a file can't be written, or play's port can't be had
   20  the words are wrong
 """
 RAW = argparse.RawDescriptionHelpFormatter
@@ -42,7 +44,7 @@ SWEEP_EXAMPLES = """\
   tools/rtm sweep my.deck --command "CANCEL WORKER,DUMP=YES" --require CLEANUP
   tools/rtm sweep my.deck --html -o sweep.html
   tools/rtm sweep my.deck --orders --jobs 4
-  tools/rtm sweep my.deck --plan | parallel | tools/rtm sweep - --gather"""
+  tools/rtm sweep my*.deck --plan --each 50 | parallel | tools/rtm sweep - --gather"""
 WHY_EXAMPLES = """\
   tools/rtm why examples/term.deck 6
   tools/rtm why my.deck 120 my.trace"""
@@ -52,6 +54,9 @@ WHYNOT_EXAMPLES = """\
 DIFF_EXAMPLES = """\
   tools/rtm diff my.deck before.trace after.trace
   ./rtmrun seq my.deck | tools/rtm diff my.deck theirs.trace -"""
+PLAY_EXAMPLES = """\
+  tools/rtm play
+  tools/rtm play my.deck --open"""
 LINT_EXAMPLES = """\
   tools/rtm lint my.deck
   tools/rtm lint - < my.deck"""
@@ -72,6 +77,12 @@ def entry_number(text: str) -> int:
     return number
 
 
+def positive(text: str) -> int:
+    if entry_number(text) < 1:
+        raise ValueError(text)
+    return int(text)
+
+
 def make_parser() -> Parser:
     """All words with their options."""
     parser = Parser(prog="rtm", formatter_class=RAW, epilog=STATUSES,
@@ -79,7 +90,7 @@ def make_parser() -> Parser:
     parser.add_argument("--version", action="version", version="rtm " + VERSION)
     words = parser.add_subparsers(dest="word", metavar="word", parser_class=Parser)
     words.required = True
-    for add in (add_view, add_sweep, add_why, add_whynot, add_diff, add_lint, add_doctor):
+    for add in (add_view, add_sweep, add_why, add_whynot, add_diff, add_lint, add_play, add_doctor):
         word = add(words)
         word.add_argument("--rtmrun", metavar="PATH", help="the built program (or the environment variable RTMRUN)")
     return parser
@@ -131,7 +142,8 @@ def add_sweep(words: Any) -> argparse.ArgumentParser:
     """The word `sweep`."""
     parser = add_word(words, "sweep", sweep, SWEEP_EXAMPLES, "move a cancel over all moments of a run",
                       "Runs a deck once for each moment at which a cancel can come, and says what became of it.")
-    parser.add_argument("deck", help="the deck, or - for standard input; with --gather the lines of its jobs")
+    parser.add_argument("decks", nargs="+", metavar="deck",
+                        help="the decks, or - for standard input; with --gather the lines that jobs printed")
     parser.add_argument("--command", metavar="CARD", help='the command that moves, as "CANCEL JOB" (the deck\'s first '
                         "command, else a cancel of the job step task)")
     parser.add_argument("--require", metavar="ROUTINE",
@@ -147,7 +159,9 @@ def add_sweep(words: Any) -> argparse.ArgumentParser:
     kinds.add_argument("--json", action="store_true", help="the moments as JSON")
     kinds.add_argument("--plan", action="store_true", help="write one job a line, for GNU parallel or a batch queue")
     kinds.add_argument("--gather", action="store_true", help="make the table of what the jobs of a plan printed")
-    kinds.add_argument("--at", type=entry_number, metavar="N", help="run this moment alone, as a job of a plan does")
+    kinds.add_argument("--at", type=read_moments, metavar="LIST", help="run these moments, as a job of a plan does: "
+                       "3 or 0-49,60")
+    parser.add_argument("--each", type=positive, default=1, metavar="N", help="with --plan: so many moments a job")
     add_output(parser)
     return parser
 
@@ -197,10 +211,30 @@ def add_lint(words: Any) -> argparse.ArgumentParser:
     return parser
 
 
+def port_number(text: str) -> int:
+    if entry_number(text) > 65535:
+        raise ValueError(text)
+    return int(text)
+
+
+def add_play(words: Any) -> argparse.ArgumentParser:
+    """The word `play`."""
+    parser = add_word(words, "play", play, PLAY_EXAMPLES, "write a deck in the browser and see it run",
+                      "Serves one page on 127.0.0.1, for a person who writes a deck: faults are marked while it is "
+                      "typed, and the picture is drawn anew. Ctrl-C ends it.")
+    parser.add_argument("deck", nargs="?", help="the deck to begin with (the first example)")
+    parser.add_argument("--port", type=port_number, default=0, metavar="N", help="this port (any that is free)")
+    parser.add_argument("--open", action="store_true", help="open the page in the browser")
+    return parser
+
+
 def add_doctor(words: Any) -> argparse.ArgumentParser:
     """The word `doctor`."""
-    return add_word(words, "doctor", doctor, "  tools/rtm doctor", "say which program is asked, and what is missing",
-                    "Prints the program, the versions, and what is missing.")
+    parser = add_word(words, "doctor", doctor, "  tools/rtm doctor", "say which program is asked, and what is missing",
+                      "Prints the program, the versions, and what is missing.")
+    add_json(parser)
+    add_output(parser)
+    return parser
 
 
 def main(words: Optional[List[str]] = None) -> int:

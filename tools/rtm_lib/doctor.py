@@ -4,6 +4,7 @@ from __future__ import annotations
 
 import argparse
 import hashlib
+import json
 import platform
 import shutil
 import subprocess
@@ -13,6 +14,7 @@ from typing import List, Tuple
 
 from . import VERSION
 from .failures import NO_PROGRAM, OK
+from .files import write
 from .program import HOW_TO_BUILD, REPOSITORY, Rtmrun, place_of
 
 LEAST_PYTHON = (3, 9)
@@ -38,9 +40,9 @@ def doctor(arguments: argparse.Namespace) -> int:
         works = False
         lines.append(("rtmrun", "missing: no program at %s; it is built by: %s" % (path, HOW_TO_BUILD)))
     lines.append(("toolchain", toolchain()))
-    lines.append(("browser", browser()))
-    for name, what in lines:
-        print("%-11s %s" % (name, what))
+    lines += [("browser", browser()), ("parallel", parallel())]
+    write(arguments.output, json.dumps(dict(lines), indent=1) + "\n" if arguments.json else "".join(
+        "%-11s %s\n" % line for line in lines))
     return OK if works else NO_PROGRAM
 
 
@@ -74,8 +76,15 @@ def toolchain() -> str:
 
 
 def browser() -> str:
-    """The browser that the tests measure pages in."""
+    """The browser that the tests measure pages in, and the driver by which they use the page of `play`."""
     for name in BROWSERS:
         if shutil.which(name):
-            return first_line_of([name, "--version"]) or name
+            driver = "" if shutil.which("chromedriver") else "; missing: no chromedriver, for the tests of play alone"
+            return (first_line_of([name, "--version"]) or name) + driver
     return "missing: no Chromium; it is needed by the tests of pages alone"
+
+
+def parallel() -> str:
+    """What runs the jobs of `sweep --plan`; xargs does so too."""
+    found = first_line_of(["parallel", "--version"]) if shutil.which("parallel") else ""
+    return found or "missing: no GNU parallel; xargs -P runs the jobs of sweep --plan too"

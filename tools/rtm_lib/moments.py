@@ -7,7 +7,7 @@ from __future__ import annotations
 
 from concurrent.futures import ThreadPoolExecutor
 from dataclasses import asdict, dataclass, field
-from typing import Any, Callable, Dict, Iterator, List, Optional, Tuple
+from typing import Any, Callable, Dict, Iterator, List, Optional, Sequence, Tuple
 
 from .deck import Deck, is_end, read_card, read_deck, split_input
 from .failures import Failure, WRONG_WORDS
@@ -138,18 +138,18 @@ def put_in(deck: Deck, lines: List[bytes], said: List[str]) -> Tuple[int, int]:
     return end, number
 
 
-def moments_of(rtmrun: Rtmrun, swept: Swept, first: int, last: Optional[int],
-               all_moments: bool) -> Tuple[List[int], int]:
+def moments_of(rtmrun: Rtmrun, swept: Swept, first: int, last: Optional[int], all_moments: bool,
+               most: int = MOST_MOMENTS) -> Tuple[List[int], int]:
     """The moments, at most so many, and how many there are: from 0 to the length of the trace without the command."""
     length = len(read_trace(rtmrun.run(swept.base)).entries)
     stop = length if last is None else min(last, length)
     there_are = stop - first + 1
     if there_are < 1:
         raise Failure("the last moment is %d, the length of the trace without the command" % length, WRONG_WORDS)
-    if all_moments or there_are <= MOST_MOMENTS:
+    if all_moments or there_are <= most:
         return list(range(first, stop + 1)), there_are
-    step = (there_are - 1) / (MOST_MOMENTS - 1)
-    return [first + round(place * step) for place in range(MOST_MOMENTS)], there_are
+    step = (there_are - 1) / (most - 1)
+    return [first + round(place * step) for place in range(most)], there_are
 
 
 def run_moment(rtmrun: Rtmrun, swept: Swept, at: int) -> Moment:
@@ -160,11 +160,36 @@ def run_moment(rtmrun: Rtmrun, swept: Swept, at: int) -> Moment:
 
 def run_moments(rtmrun: Rtmrun, swept: Swept, moments: List[int], jobs: int,
                 progress: Callable[[int], None]) -> Iterator[Moment]:
-    """All runs, some at a time, in the order of the moments."""
-    with ThreadPoolExecutor(max(1, jobs)) as pool:
+    """All runs, some at a time, in the order of the moments. Those that haven't begun are left where it ends early."""
+    pool = ThreadPoolExecutor(max(1, jobs))
+    try:
         for done, moment in enumerate(pool.map(lambda at: run_moment(rtmrun, swept, at), moments), 1):
             progress(done)
             yield moment
+    finally:
+        pool.shutdown(cancel_futures=True)
+
+
+def listed_moments(moments: Sequence[int]) -> str:
+    """Moments as --at takes them, neighbours as a range."""
+    runs: List[List[int]] = []
+    for moment in moments:
+        if runs and runs[-1][-1] == moment - 1:
+            runs[-1].append(moment)
+        else:
+            runs.append([moment])
+    return ",".join(str(run[0]) if len(run) == 1 else "%d-%d" % (run[0], run[-1]) for run in runs)
+
+
+def read_moments(text: str) -> List[int]:
+    """Moments from what `listed_moments` writes; a ValueError where it isn't that."""
+    moments: List[int] = []
+    for run in text.split(","):
+        first, dash, last = run.partition("-")
+        if not (first.isdigit() and (last.isdigit() or not dash)):
+            raise ValueError(text)
+        moments += range(int(first), int(last or first) + 1)
+    return moments
 
 
 # What a trace says of the command

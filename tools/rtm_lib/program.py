@@ -4,6 +4,7 @@ from __future__ import annotations
 
 import os
 import subprocess
+import time
 from dataclasses import dataclass
 from pathlib import Path
 from typing import List, Optional, Tuple
@@ -13,9 +14,18 @@ from .failures import (BAD_LINE, CANNOT_READ, DECK_REFUSED, Failure, NO_PROGRAM,
 
 REPOSITORY = Path(__file__).resolve().parents[2]
 BUILT = REPOSITORY / "crates" / "rtmrun" / "out" / "rtmrun"
-HOW_TO_BUILD = "cd crates/rtmrun && rt run"
+HOW_TO_BUILD = "./rtmrun --build"
 # The endings of a run that was written: ended, stalled, at the limit of entries.
 RUN_WRITTEN = (0, 4, 6)
+# How long one run may take where runs are bounded.
+MOST_SECONDS = 10.0
+
+
+class TooLong(Failure):
+    """Runs that were bounded have taken longer."""
+
+    def __init__(self, message: str) -> None:
+        super().__init__(message, CANNOT_READ)
 
 
 @dataclass(frozen=True)
@@ -33,17 +43,29 @@ class Verdict:
 
 @dataclass(frozen=True)
 class Rtmrun:
-    """The program, by its path."""
+    """The program, by its path. A moment of time.monotonic() may bound its runs: all end by it, each within a while."""
 
     path: Path
+    until: Optional[float] = None
+
+    def seconds(self) -> Optional[float]:
+        """How long a run may take that begins now; None where it may take as long as it likes."""
+        if self.until is None:
+            return None
+        left = self.until - time.monotonic()
+        if left <= 0:
+            raise TooLong("this takes too long, and was ended")
+        return min(left, MOST_SECONDS)
 
     def ask(self, words: List[str], text: bytes) -> Tuple[int, bytes]:
         """Runs the program with these words over this input."""
         try:
             done = subprocess.run([str(self.path)] + words, input=text, stdout=subprocess.PIPE,
-                                  stderr=subprocess.PIPE, check=False)
+                                  stderr=subprocess.PIPE, check=False, timeout=self.seconds())
         except OSError as trouble:
             raise Failure("%s can't be run: %s" % (self.path, trouble.strerror), NO_PROGRAM) from None
+        except subprocess.TimeoutExpired:
+            raise TooLong("this takes too long, and was ended") from None
         return done.returncode, done.stdout
 
     def run(self, deck: bytes) -> bytes:

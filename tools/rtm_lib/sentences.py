@@ -18,7 +18,7 @@ CODE_NAMES: Dict[str, str] = {
     "S13E": "detached by its mother", "S33E": "detached with STAE=YES", "S23E": "DETACH of a task that isn't its own",
     "S07D": "too many FRRs", "SA03": "ended while a subtask lived", "SEE1": "too many request blocks",
     "SEE2": "too many ESTAE routines", "SEE3": "a routine made in the 16th bracket", "SEE4": "too many holdings",
-    "SEE5": "too many resource managers", "SEE6": "a card for recovery routines outside of one",
+    "SEE5": "too many resource managers", "SEE6": "a recovery routine's card, in no recovery routine",
     "SEE7": "a card that wants an SDWA, in a routine without one",
 }
 ORDINALS = ("first", "second", "third", "fourth", "fifth", "sixth", "seventh", "eighth", "ninth", "tenth")

@@ -2,6 +2,7 @@
 
 from __future__ import annotations
 
+import re
 from html import escape
 from pathlib import Path
 from typing import List, Tuple
@@ -33,6 +34,16 @@ def minified(style: str) -> str:
     return style.replace("\n", "")
 
 
+def used(style: str, markup: str) -> str:
+    """The rules of a style that speak of what the markup has, so that a stored picture is small."""
+    present = {name for names in re.findall(r'class="([^"]*)"', markup) for name in names.split()}
+
+    def kept(rule: "re.Match[str]") -> str:
+        selectors = [one for one in rule.group(1).split(",") if present.issuperset(re.findall(r"\.([\w-]+)", one))]
+        return "%s{%s}" % (",".join(selectors), rule.group(2)) if selectors else ""
+    return re.sub(r"([^{}@]+)\{([^{}]*)\}", kept, style)
+
+
 def svg(picture: Picture) -> str:
     """The whole file."""
     layout = picture.layout
@@ -49,13 +60,13 @@ def svg(picture: Picture) -> str:
     for place, (style, text) in enumerate(foot_lines):
         lines.append('<text class="trace %s" x="%s" y="%s">%s</text>' % (
             style, number(words_x(picture)), number(layout.rows.foot_of_all + ROW * place + 14), escape(text)))
+    drawn = ('<rect class="all" width="{w}" height="{h}"/>{head}<g transform="translate(0 {top})">{fifths}{lines}{part}'
+             '</g></svg>\n').format(w=number(width), h=number(height), head=head, top=number(top), fifths=fifths,
+                                    lines="".join(lines), part=layout_markup(picture))
     return ('<svg xmlns="http://www.w3.org/2000/svg" width="{w}" height="{h}" viewBox="0 0 {w} {h}" role="img" '
-            'aria-labelledby="name"><title id="name">{title}</title><style>{style}</style>'
-            '<rect class="all" width="{w}" height="{h}"/>{head}<g transform="translate(0 {top})">{fifths}{lines}{part}'
-            '</g></svg>\n').format(
+            'aria-labelledby="name"><title id="name">{title}</title><style>{style}</style>{drawn}').format(
         w=number(width), h=number(height), title=escape("%s: %s" % (picture.title, counts(picture))),
-        style=minified(STYLE.read_text() + ALONE), head=head, top=number(top), fifths=fifths, lines="".join(lines),
-        part=layout_markup(picture))
+        style=used(minified(STYLE.read_text() + ALONE), drawn), drawn=drawn)
 
 
 def layout_markup(picture: Picture) -> str:

@@ -8,11 +8,11 @@ import shlex
 import sys
 from dataclasses import dataclass
 from pathlib import Path
-from typing import Any, Dict, List, Optional, Sequence
+from typing import Any, Dict, List, Optional, Sequence, Tuple
 
 from .failures import CANNOT_READ, Failure, NOT_ENTERED, OK, WRONG_WORDS
 from .files import STDIN, read_file, write
-from .moments import (NEVER, Moment, Swept, check_routine, is_entered, moments_of, prepare, row_key, run_moment,
+from .moments import (NEVER, Moment, Swept, check_routine, is_entered, listed_moments, moments_of, prepare, row_key,
                       run_moments)
 from .program import Rtmrun, find
 from .progress import progress
@@ -25,8 +25,9 @@ COLUMNS = ("AT", "lands", "routines entered from then on", "released", "ends wit
 
 @dataclass
 class Sweep:
-    """All moments, and what was done to have them."""
+    """All moments of a deck, and what was done to have them."""
 
+    deck: str
     command: str
     unit: str
     said: List[str]
@@ -37,35 +38,72 @@ def sweep(arguments: argparse.Namespace) -> int:
     """Runs, gathers or plans, and ends with 1 where a routine that is required isn't entered."""
     if arguments.orders:
         return sweep_orders(arguments)
+    if arguments.html and len(arguments.decks) > 1:
+        raise Failure("--html is the page of one deck", WRONG_WORDS)
     if arguments.gather:
-        found = gathered(read_file(arguments.deck))
+        found = gathered(b"".join(read_file(name) for name in arguments.decks))
+    elif arguments.plan or arguments.at is not None:
+        return run_part(arguments)
     else:
-        rtmrun = find(arguments.rtmrun)
-        swept = prepare(read_file(arguments.deck), arguments.command)
-        check_routine(swept.base, arguments.require)
-        if arguments.at is not None:
-            return print_one(rtmrun, swept, arguments)
-        moments, there_are = moments_of(rtmrun, swept, arguments.first, arguments.last, arguments.all)
-        said = list(swept.said)
-        if len(moments) < there_are:
-            said.append("%d of %d moments, evenly spread; --all runs all" % (len(moments), there_are))
-        if arguments.plan:
-            write(arguments.output, plan(arguments, swept, moments, said))
-            return OK
-        runs = run_moments(rtmrun, swept, moments, arguments.jobs, progress(len(moments)))
-        found = Sweep(swept.command, swept.unit, said, list(runs))
+        found = [sweep_deck(arguments, name) for name in sorted(set(arguments.decks))]
     write(arguments.output, shown(found, arguments))
-    return required(found, arguments.require)
+    return max(required(one, arguments.require) for one in found)
 
 
-def shown(found: Sweep, arguments: argparse.Namespace) -> str:
-    """The sweep in the form that was asked for."""
+def run_part(arguments: argparse.Namespace) -> int:
+    """Writes the jobs of all decks, or runs the moments of one job."""
+    rtmrun = find(arguments.rtmrun)
+    written = []
+    for name in sorted(set(arguments.decks)):
+        swept = made_ready(arguments, name)
+        if arguments.at is None:
+            moments, said = chosen_moments(rtmrun, swept, arguments)
+            written.append(plan(arguments, name, swept, moments, said))
+        else:
+            runs = run_moments(rtmrun, swept, arguments.at, arguments.jobs, progress(len(arguments.at)))
+            written += [as_line(name, swept, moment) for moment in runs]
+    write(arguments.output, "".join(written))
+    return OK
+
+
+def made_ready(arguments: argparse.Namespace, name: str) -> Swept:
+    swept = prepare(read_file(name), arguments.command)
+    check_routine(swept.base, arguments.require)
+    return swept
+
+
+def chosen_moments(rtmrun: Rtmrun, swept: Swept, arguments: argparse.Namespace) -> Tuple[List[int], List[str]]:
+    """The moments that are tried, and what was done to have them."""
+    moments, there_are = moments_of(rtmrun, swept, arguments.first, arguments.last, arguments.all)
+    said = list(swept.said)
+    if len(moments) < there_are:
+        said.append("%d of %d moments, evenly spread; --all runs all" % (len(moments), there_are))
+    return moments, said
+
+
+def sweep_deck(arguments: argparse.Namespace, name: str) -> Sweep:
+    """Runs one deck at all its moments."""
+    rtmrun, swept = find(arguments.rtmrun), made_ready(arguments, name)
+    moments, said = chosen_moments(rtmrun, swept, arguments)
+    runs = run_moments(rtmrun, swept, moments, arguments.jobs, progress(len(moments)))
+    return Sweep(name, swept.command, swept.unit, said, list(runs))
+
+
+def shown(found: Sequence[Sweep], arguments: argparse.Namespace) -> str:
+    """The sweeps in the form that was asked for; each table under its deck's name where there are several."""
     if arguments.json:
-        return as_json(found)
+        told = [as_json(one) for one in found]
+        return json.dumps(told[0] if len(told) == 1 else {"sweeps": told}, indent=1) + "\n"
     if arguments.html:
-        return sweep_page(title_of(arguments.deck), head_of(found), found.said, answers(found, arguments.require),
-                          found.moments, row_key, lambda moment: landing_words(Range([moment])))
-    return table(found, arguments.require)
+        return "".join(as_page(one, arguments.require) for one in found[:1])
+    if len(found) == 1:
+        return table(found[0], arguments.require)
+    return "\n".join("%s: %s" % (one.deck, table(one, arguments.require)) for one in found)
+
+
+def as_page(found: Sweep, routine: Optional[str]) -> str:
+    return sweep_page(title_of(found.deck), head_of(found), found.said, answers(found, routine),
+                      found.moments, row_key, lambda moment: landing_words(Range([moment])))
 
 
 def title_of(name: str) -> str:
@@ -82,48 +120,49 @@ def required(found: Sweep, routine: Optional[str]) -> int:
 
 # Many hosts
 
-def plan(arguments: argparse.Namespace, swept: Swept, moments: Sequence[int], said: Sequence[str]) -> str:
-    """One job a line; each prints a line that --gather reads."""
-    if arguments.deck == STDIN:
+def plan(arguments: argparse.Namespace, name: str, swept: Swept, moments: Sequence[int],
+         said: Sequence[str]) -> str:
+    """One job a line, for so many moments each; it prints a line for each that --gather reads."""
+    if name == STDIN:
         raise Failure("a plan names the deck for other runs, so it can't be -", WRONG_WORDS)
-    words = [sys.argv[0], "sweep", arguments.deck, "--command", swept.command]
+    words = [sys.argv[0], "sweep", name, "--command", swept.command]
     if arguments.rtmrun:
         words += ["--rtmrun", arguments.rtmrun]
     job = " ".join(shlex.quote(word) for word in words)
     for one in said:
-        print("rtm: " + one, file=sys.stderr)
-    return "".join("%s --at %d\n" % (job, at) for at in moments)
+        print("rtm: %s: %s" % (name, one), file=sys.stderr)
+    return "".join("%s --at %s\n" % (job, listed_moments(moments[place:place + arguments.each]))
+                   for place in range(0, len(moments), arguments.each))
 
 
-def print_one(rtmrun: Rtmrun, swept: Swept, arguments: argparse.Namespace) -> int:
+def as_line(name: str, swept: Swept, moment: Moment) -> str:
     """One moment as a line of JSON."""
-    moment = run_moment(rtmrun, swept, arguments.at)
-    line: Dict[str, Any] = {"command": swept.command, "unit": swept.unit, "said": list(swept.said),
+    line: Dict[str, Any] = {"deck": name, "command": swept.command, "unit": swept.unit, "said": list(swept.said),
                             "moment": moment.to_json()}
-    write(arguments.output, json.dumps(line) + "\n")
-    return OK
+    return json.dumps(line) + "\n"
 
 
-def gathered(text: bytes) -> Sweep:
-    """A sweep from the lines that its jobs printed, in any order."""
+def gathered(text: bytes) -> List[Sweep]:
+    """The sweeps whose jobs printed these lines, in any order; by their decks' names."""
     try:
         lines = [json.loads(line) for line in text.decode("utf-8").splitlines() if line.strip()]
-        moments = {line["moment"]["at"]: Moment.of_json(line["moment"]) for line in lines}
-        kinds = {(line["command"], line["unit"], tuple(line["said"])) for line in lines}
+        kinds = sorted({(line["deck"], line["command"], line["unit"], tuple(line["said"])) for line in lines})
+        moments = {(line["deck"], line["moment"]["at"]): Moment.of_json(line["moment"]) for line in lines}
     except (ValueError, KeyError, TypeError):
         raise Failure("--gather reads the lines that the jobs of a plan print, and this isn't one",
                       CANNOT_READ) from None
-    if len(kinds) != 1:
-        raise Failure("--gather got lines of %d sweeps, and needs those of one" % len(kinds), CANNOT_READ)
-    command, unit, said = kinds.pop()
-    return Sweep(command, unit, list(said), [moments[at] for at in sorted(moments)])
+    if not kinds or len({kind[0] for kind in kinds}) != len(kinds):
+        raise Failure("--gather needs the lines of one sweep for each deck, and got those of %d for %d" % (
+            len(kinds), len({kind[0] for kind in kinds})), CANNOT_READ)
+    return [Sweep(deck, command, unit, list(said), [moments[key] for key in sorted(moments) if key[0] == deck])
+            for deck, command, unit, said in kinds]
 
 
 # Text
 
-def as_json(found: Sweep) -> str:
-    return json.dumps({"command": found.command, "unit": found.unit, "said": found.said, "order": "one thread",
-                       "moments": [moment.to_json() for moment in found.moments]}, indent=1) + "\n"
+def as_json(found: Sweep) -> Dict[str, Any]:
+    return {"deck": found.deck, "command": found.command, "unit": found.unit, "said": found.said,
+            "order": "one thread", "moments": [moment.to_json() for moment in found.moments]}
 
 
 def head_of(found: Sweep) -> str:

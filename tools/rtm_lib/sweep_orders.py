@@ -22,7 +22,9 @@ def sweep_orders(arguments: argparse.Namespace) -> int:
     if arguments.html or arguments.plan or arguments.gather or arguments.all or arguments.at is not None or (
             arguments.first or arguments.last is not None):
         raise Failure("--orders takes --command, --require, --jobs, --json and -o alone", WRONG_WORDS)
-    text = read_file(arguments.deck)
+    if len(arguments.decks) > 1:
+        raise Failure("--orders takes one deck", WRONG_WORDS)
+    text = read_file(arguments.decks[0])
     check_routine(text, arguments.require)
     found = try_all(find(arguments.rtmrun), text, arguments.command, arguments.jobs, progress(None))
     write(arguments.output, as_json(found) if arguments.json else table(found, arguments.require))

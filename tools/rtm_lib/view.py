@@ -42,7 +42,7 @@ def view(arguments: argparse.Namespace) -> int:
 def make_picture(arguments: argparse.Namespace, judged: Judged) -> Tuple[Picture, str]:
     """The picture, and where it is folded the strip of all entries."""
     rows, note = choose_rows(arguments, judged.deck, judged.history)
-    if not rows.rows:
+    if not rows.rows and (is_part(arguments) or judged.history.length):
         raise Failure("no entry of the trace is in the part that was asked for", WRONG_WORDS)
     has_strip = not arguments.svg and not is_part(arguments) and not rows.is_whole
     layout = lay_out(rows, PAGE - strip_width(rows)) if has_strip else lay_out(rows)

@@ -2,6 +2,8 @@
 
 from __future__ import annotations
 
+import contextlib
+import io
 import os
 import subprocess
 import sys
@@ -9,7 +11,9 @@ import unittest
 from html.parser import HTMLParser
 from pathlib import Path
 from typing import Dict, Iterator, List, Optional, Tuple
+from unittest import mock
 
+from rtm_lib.command import main
 from rtm_lib.deck import read_deck
 from rtm_lib.drawing import Drawing
 from rtm_lib.failures import Failure
@@ -43,7 +47,7 @@ class WithProgram(unittest.TestCase):
     def setUpClass(cls) -> None:
         found = program()
         if found is None:
-            raise unittest.SkipTest("rtmrun isn't built (cd crates/rtmrun && rt run), and RTMRUN names no program")
+            raise unittest.SkipTest("rtmrun isn't built (./rtmrun --build), and RTMRUN names no program")
         cls.rtmrun = found
 
 
@@ -59,9 +63,9 @@ def generated(seed: int) -> bytes:
     return subprocess.run([sys.executable, maker, str(seed)], stdout=subprocess.PIPE, check=True).stdout
 
 
-def random_runs(rtmrun: Rtmrun, number: int = RANDOM_DECKS) -> Iterator[Tuple[str, bytes, bytes]]:
-    """So many random decks that are read, each with its trace."""
-    seed = 0
+def random_runs(rtmrun: Rtmrun, number: int = RANDOM_DECKS, first: int = 1) -> Iterator[Tuple[str, bytes, bytes]]:
+    """So many random decks that are read, each with its trace, from a seed on."""
+    seed = first - 1
     while number:
         seed += 1
         deck = generated(seed)
@@ -136,6 +140,17 @@ def copied(page: str) -> Tuple[bytes, List[str]]:
 
 def run_companion(*words: str, text: bytes = b"",
                   environment: Optional[Dict[str, str]] = None) -> "subprocess.CompletedProcess[bytes]":
-    """Runs tools/rtm as a person would."""
-    return subprocess.run([sys.executable, str(COMPANION)] + list(words), input=text, stdout=subprocess.PIPE,
-                          stderr=subprocess.PIPE, env=environment, check=False)
+    """Runs tools/rtm as a person would: in this process, since starting Python takes longer than most words do."""
+    with contextlib.ExitStack() as changed:
+        streams = [io.TextIOWrapper(io.BytesIO(given), encoding="utf-8", write_through=True)
+                   for given in (text, b"", b"")]
+        for name, stream in zip(("stdin", "stdout", "stderr"), streams):
+            changed.enter_context(mock.patch.object(sys, name, stream))
+        changed.enter_context(mock.patch.object(sys, "argv", [str(COMPANION)]))
+        changed.enter_context(mock.patch.dict(os.environ, environment or {}))
+        try:
+            status = main(list(words))
+        except SystemExit as ended:  # --help and --version end so
+            status = int(ended.code or 0)
+        written = [bytes(stream.buffer.getvalue()) for stream in streams[1:]]  # type: ignore[attr-defined]
+    return subprocess.CompletedProcess(words, status, *written)

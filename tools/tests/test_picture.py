@@ -105,6 +105,14 @@ class PictureTest(WithProgram):
                 self.assertEqual(list(struck(canvas.texts, canvas.strokes)), [], name)
                 self.assertEqual(list(outside(canvas, layout.width, layout.rows.foot_of_all + 1)), [], name)
 
+    def test_an_abort_of_the_master_to_the_unit_whose_column_it_has(self) -> None:
+        deck = (b"MAIN PROG\n ATTACHX A\n RESMGR ADD,PGM=LATE,TYPE=SPACE\n WAITT A\n PEND\nWORK PROG\n NOP\n PEND\n"
+                b"LATE PROG\n CALLRTM ABTERM,TASK=A,COMPCOD=U8\n PEND\nJOB TASK PGM=MAIN\nA TASK PGM=WORK\n END\n")
+        history = history_of(deck, self.rtmrun.run(deck))
+        layout, drawing = drawn(history)
+        self.assertIs(layout.columns["A"], layout.columns["*"])
+        self.assertEqual(list(struck(drawing.canvas.texts, drawing.canvas.strokes)), [])
+
     def test_parts_are_drawn_too(self) -> None:
         for name, history in self.histories():
             for first in range(0, history.length, max(1, history.length // 4)):

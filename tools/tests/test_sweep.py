@@ -11,7 +11,7 @@ from pathlib import Path
 from typing import List
 
 from rtm_lib.failures import Failure
-from rtm_lib.moments import prepare
+from rtm_lib.moments import listed_moments, prepare, read_moments
 from rtm_lib.orders import LATEST, Walk, try_all
 from rtm_lib.trace import read_trace
 
@@ -104,6 +104,30 @@ class SweepTest(WithProgram):
                                 for job in reversed(jobs)]
         self.assertEqual(self.sweep("-", "--gather", text=b"".join(printed)), self.sweep(*some))
         self.sweep("-", "--gather", text=b"no line of a job\n", status=16)
+
+    def test_several_decks_and_moments_go_into_a_job(self) -> None:
+        decks = [str(EXAMPLES / "srb.deck"), str(CANCEL)]
+        whole = self.sweep(*decks, "--jobs", "2")
+        self.assertEqual([line.split(": ")[0] for line in whole.splitlines() if "in the order of one" in line],
+                         sorted(decks))
+        jobs = [shlex.split(line) for line in self.sweep(*decks, "--plan", "--each", "8").splitlines()]
+        self.assertEqual([job[-1] for job in jobs], ["0-7", "8-15", "16-20"] * 2)
+        printed: List[bytes] = [subprocess.run(job, stdout=subprocess.PIPE, check=True).stdout
+                                for job in reversed(jobs)]
+        self.assertEqual(self.sweep("-", "--gather", text=b"".join(printed)), whole)
+        other = self.sweep(str(CANCEL), "--command", "CANCEL DBJOB,DUMP=YES", "--at", "3").encode()
+        self.sweep("-", "--gather", text=b"".join(printed) + other, status=16)
+        for words in (["--html"], ["--orders"]):
+            self.sweep(*decks, *words, status=20)
+        self.assertEqual(len(json.loads(self.sweep(*decks, "--json", "--to", "2"))["sweeps"]), 2)
+
+    def test_moments_are_listed_and_read(self) -> None:
+        for moments, text in (([3], "3"), ([0, 1, 2, 7], "0-2,7"), ([4, 6, 7], "4,6-7")):
+            self.assertEqual(listed_moments(moments), text)
+            self.assertEqual(read_moments(text), moments)
+        for text in ("", "x", "1-", "-1", "1,,2"):
+            self.assertRaises(ValueError, read_moments, text)
+        self.sweep(str(CANCEL), "--at", "x", status=20)
 
     def test_all_orders_are_those_of_all_moments(self) -> None:
         walk = Walk(self.rtmrun, TWO_COMMANDS)

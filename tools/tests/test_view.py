@@ -3,16 +3,20 @@
 from __future__ import annotations
 
 import os
+import re
 import tempfile
 import unittest
 from pathlib import Path
 
+from rtm_lib.program import REPOSITORY
+
 from .decks import many_units
-from .support import EXAMPLES, WithProgram, copied, program, run_companion
+from .support import EXAMPLES, WithProgram, copied, example_decks, program, run_companion
 
 RETRY = str(EXAMPLES / "retry.deck")
 RETRY_TRACE = str(EXAMPLES / "retry.trace")
 LARGEST_PAGE = 10_000_000
+LARGEST_STORED = 25_000
 
 
 class WordsTest(unittest.TestCase):
@@ -31,7 +35,7 @@ class WordsTest(unittest.TestCase):
     def test_a_missing_program_is_said_with_how_to_build_it(self) -> None:
         done = run_companion("view", RETRY, "--rtmrun", "/nowhere/rtmrun")
         self.assertEqual(done.returncode, 3)
-        self.assertIn(b"cd crates/rtmrun && rt run", done.stderr)
+        self.assertIn(b"./rtmrun --build", done.stderr)
         self.assertEqual(run_companion("doctor", "--rtmrun", "/nowhere/rtmrun").returncode, 3)
 
 
@@ -57,6 +61,27 @@ class ViewTest(WithProgram):
         self.assertEqual(self.page(RETRY, "-", text=trace), page)
         behind = self.page("-", text=Path(RETRY).read_bytes() + trace)
         self.assertEqual(behind.replace(">deck<", ">retry<"), page)
+
+    def test_stored_pictures_are_those_that_are_made(self) -> None:
+        for deck in example_decks():
+            stored = deck.with_suffix(".svg")
+            self.assertTrue(stored.is_file(), "%s: no picture; tools/pictures draws it" % stored.name)
+            made = self.page(str(deck), str(deck.with_suffix(".trace")), "--svg")
+            self.assertEqual(stored.read_text(encoding="utf-8"), made,
+                             "%s is no longer what rtm makes; tools/pictures draws it anew" % stored.name)
+            self.assertLess(len(made), LARGEST_STORED, stored.name)
+        drawn = {deck.with_suffix(".svg") for deck in example_decks()}
+        self.assertEqual(set(EXAMPLES.glob("*.svg")), drawn)
+
+    def test_pages_show_pictures_that_are_there(self) -> None:
+        shown = []
+        for page in (REPOSITORY / "README.md", EXAMPLES / "README.md", REPOSITORY / "docs" / "MACHINE.md",
+                     REPOSITORY / "docs" / "RTM.md"):
+            named = re.findall(r"!\[[^]]+\]\(([^)]+)\)", page.read_text(encoding="utf-8"))
+            self.assertTrue(named, page)
+            shown += [(page.parent / name).resolve() for name in named]
+        self.assertEqual([one for one in shown if not one.is_file()], [])
+        self.assertEqual({one.stem for one in shown}, {deck.stem for deck in example_decks()})
 
     def test_routines_without_an_sdwa_are_said(self) -> None:
         page = self.page(str(EXAMPLES / "nosdwa.deck"))
@@ -103,6 +128,12 @@ class ViewTest(WithProgram):
         self.assertEqual(alone, ["e0", "e27", "e28", "e29"])
         self.page(estai, "--unit", "NOBODY", status=20)
         self.page(estai, "--from", "1000", status=20)
+
+    def test_a_trace_without_an_entry_is_a_page_too(self) -> None:
+        waits = b"MAIN PROG\n WAIT 1\n PEND\nJOB TASK PGM=MAIN\n END\n"
+        self.assertEqual(copied(self.page("-", text=waits))[0], b"RTMTRACE 1\nEND STALLED\n")
+        self.assertIn("0 entries", self.page("-", "--svg", text=waits))
+        self.page("-", "--from", "0", text=waits, status=20)
 
     def test_a_long_trace_folds(self) -> None:
         page = self.page("-", text=many_units(60, 40))
