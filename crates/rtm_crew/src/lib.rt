@@ -5,9 +5,7 @@ mod region;
 mod run;
 mod send;
 mod telling;
-mod turns;
 
 pub use region::Region;
-pub use run::{NoRun, run_region, run_with};
+pub use run::{NoRun, run_with, seq_run};
 pub use send::regions_are_send;
-pub use turns::seq_run;

@@ -21,10 +21,10 @@ pub struct NoRun<M: Manager> {
     pub managers: Vec<M>,
 }
 
-/// Runs a region from its start to its end, in turns (this profile), as `seq_run` runs a system. The notes are those
+/// Runs a region from its start to its end, in turns (this profile). The notes are those
 /// of all commands of its deck, and are back in the set at the end. Each manager is told of a release of its class as
 /// it is made. Answers how the history ends.
-pub fn run_region<M: Manager>(region: &mut Region<M>, notes: &mut Notes) -> End
+pub fn seq_run<M: Manager>(region: &mut Region<M>, notes: &mut Notes) -> End
     requires start { region.old.system.trace ≡ [] }
     requires notes { AreAll region.old.system.deck notes.old }
     ensures trace { region.new.system.trace ≡ seq region.old.system.deck }
@@ -89,7 +89,7 @@ pub fn run_with<M: Manager>(
     match make_ready::<M>(alloc, deck, &mut desks) {
         Ok((system, mut notes)) => {
             let mut region = Region::<M>::make(system, desks);
-            let end = run_region::<M>(&mut region, &mut notes);
+            let end = seq_run::<M>(&mut region, &mut notes);
             region.managers_are_told();
             Ok((region, end))
         }

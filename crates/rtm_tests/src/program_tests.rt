@@ -1,6 +1,8 @@
 //! The top call, over sources and sinks that fail.
 
+use rtm_desk::{Manager, MemManager};
 use rtm_io::{MemSink, MemSource};
+use rtm_model::Res;
 use rtm_top::{RtmWord, Status, plain_words};
 use std::alloc::{AllocError, Global};
 use std::process::Abort;
@@ -14,6 +16,22 @@ pub fn words(alloc: Global, texts: &[&str]) -> Result<Vec<RtmWord>, AllocError> 
         })?;
     }
     Ok(all)
+}
+
+/// Calls the program with these words and with managers in memory, and gives the status.
+pub fn said(
+    alloc: Global,
+    words: &[RtmWord],
+    src: &mut MemSource,
+    out: &mut MemSink,
+) -> Result<Status, AllocError> {
+    let mut managers: Vec<Box<dyn Manager + Send>> = Vec::new(alloc);
+    managers.push(Box::new(alloc, MemManager::new(alloc, Res::Enq))?)?;
+    managers.push(Box::new(alloc, MemManager::new(alloc, Res::Stor))?)?;
+    managers.push(Box::new(alloc, MemManager::new(alloc, Res::Dsn))?)?;
+    managers.push(Box::new(alloc, MemManager::new(alloc, Res::Timr))?)?;
+    let outcome = plain_words(alloc, words, src, out, managers);
+    Ok(outcome.status)
 }
 
 fn source(alloc: Global, deck: &str, fail: &[u32]) -> Result<MemSource, AllocError> {
@@ -36,8 +54,8 @@ pub fn is_answered(
     let alloc = rt.alloc();
     let mut src = source(alloc, deck, fail.0)?;
     let mut out = MemSink::new(alloc, 100_000, Vec::from_slice(alloc, fail.1)?)?;
-    let outcome = plain_words(alloc, &words(alloc, &[word])?, &mut src, &mut out);
-    assert!(rt; outcome.status == status, "{deck}");
+    let found = said(alloc, &words(alloc, &[word])?, &mut src, &mut out)?;
+    assert!(rt; found == status, "{deck}");
     assert!(rt; out.bytes() == text.as_bytes(), "{deck}");
     Ok(())
 }
@@ -126,8 +144,8 @@ fn a_sink_that_fails_leaves_a_prefix_written(rt: HostRuntime) -> Result<(), Fail
     let alloc = rt.alloc();
     let mut src = source(alloc, ROW_1, &[])?;
     let mut out = MemSink::new(alloc, 20, Vec::new(alloc))?;
-    let outcome = plain_words(alloc, &words(alloc, &["seq"])?, &mut src, &mut out);
-    assert_eq!(rt; outcome.status, Status::Write);
+    let found = said(alloc, &words(alloc, &["seq"])?, &mut src, &mut out)?;
+    assert_eq!(rt; found, Status::Write);
     assert!(rt; out.bytes() == b"RTMTRACE 1\n0 JOB EXE".as_slice());
     Ok(())
 }
@@ -150,8 +168,8 @@ fn other_words_touch_nothing(rt: HostRuntime) -> Result<(), Fail> {
     for list in lists {
         let mut src = source(alloc, ROW_1, &[0])?;
         let mut out = MemSink::new(alloc, 100, Vec::from_slice(alloc, &[0])?)?;
-        let outcome = plain_words(alloc, &words(alloc, list)?, &mut src, &mut out);
-        assert_eq!(rt; outcome.status, Status::Words);
+        let found = said(alloc, &words(alloc, list)?, &mut src, &mut out)?;
+        assert_eq!(rt; found, Status::Words);
         assert_eq!(rt; (src.faults(), out.faults()), (0, 0));
     }
     Ok(())

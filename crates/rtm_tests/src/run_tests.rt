@@ -6,8 +6,9 @@ pub mod endings;
 mod recovery;
 mod units;
 
+use crate::program_tests::{said, words};
 use rtm_io::{MemSink, MemSource};
-use rtm_top::{RtmWord, Status, plain_words};
+use rtm_top::Status;
 use std::alloc::Global;
 use std::process::Abort;
 use std::test::Fail;
@@ -71,15 +72,11 @@ static LANDINGS: [(u32, usize); 19] = [
 
 // Runs a deck under seq, and gives the sink that was written and the status.
 fn run(alloc: Global, deck: &str) -> Result<(MemSink, Status), Fail> {
-    let mut words = Vec::new(alloc);
-    words.push(RtmWord {
-        text: String::from_str(alloc, "seq")?,
-    })?;
     let bytes = Vec::from_slice(alloc, deck.as_bytes())?;
     let mut src = MemSource::new(bytes, Vec::new(alloc));
     let mut out = MemSink::new(alloc, 2_000_000, Vec::new(alloc))?;
-    let outcome = plain_words(alloc, &words, &mut src, &mut out);
-    Ok((out, outcome.status))
+    let status = said(alloc, &words(alloc, &["seq"])?, &mut src, &mut out)?;
+    Ok((out, status))
 }
 
 // Runs a deck under seq, and compares its status and each byte of what it writes.

@@ -1,9 +1,9 @@
 //! Traces that are verified, and decks that are made and run.
 
-use crate::program_tests::{ROW_1, TRACE_1, words};
+use crate::program_tests::{ROW_1, TRACE_1, said, words};
 use crate::run_tests::{bare, endings};
 use rtm_io::{MemSink, MemSource};
-use rtm_top::{RtmWord, Status, plain_words};
+use rtm_top::Status;
 use std::process::Abort;
 use std::test::Fail;
 
@@ -174,8 +174,8 @@ fn is_said(
     }
     let mut src = MemSource::new(input, Vec::from_slice(alloc, fail)?);
     let mut out = MemSink::new(alloc, 1_000, Vec::new(alloc))?;
-    let outcome = plain_words(alloc, &words(alloc, list)?, &mut src, &mut out);
-    assert!(rt; outcome.status == status, "{text}");
+    let found = said(alloc, &words(alloc, list)?, &mut src, &mut out)?;
+    assert!(rt; found == status, "{text}");
     assert!(rt; out.bytes() == text.as_bytes(), "{text}");
     Ok(())
 }

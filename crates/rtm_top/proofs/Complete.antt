@@ -10,6 +10,7 @@ use Rattle.rtm_deck_spelling.proofs.NotBoth.{never_both}
 use Rattle.rtm_deck_spelling.proofs.OneDeck.{one_deck}
 use Rattle.rtm_trace_judge.proofs.Firsts.{legal_has_none, one_end}
 use Rattle.rtm_deck_load.specs.Deck.{load_deck}
+use Rattle.rtm_desk.specs.Told.{Row}
 use Rattle.rtm_model.specs.declared.entry.End.{End}
 use Rattle.rtm_model.specs.declared.entry.Entry.{Entry}
 use Rattle.rtm_model.specs.Legal.{end_of}
@@ -56,9 +57,9 @@ scanned bytes a h = elim h [
   | inr c ↦ (not_faulty bytes c.deck a.status c.spelled, λ d spelled. ap AnswerView.status c.is)
 ]
 
-ran : (bytes : List ℕ) (a : AnswerView) → IsSeqAnswer bytes a → IsDueOf requests.Seq bytes a.status
-ran bytes a h = elim h [
-  | inl r ↦ (λ card why fault. ap AnswerView.status r.is, λ d spelled. absurd (never_both bytes d r.card r.why spelled r.fault))
+ran : (bytes : List ℕ) (a : AnswerView) (told : List Row) → IsSeqAnswer bytes a told → IsDueOf requests.Seq bytes a.status
+ran bytes a told h = elim h [
+  | inl r ↦ (λ card why fault. ap AnswerView.status r.0.is, λ d spelled. absurd (never_both bytes d r.0.card r.0.why spelled r.0.fault))
   | inr c ↦ (
     not_faulty bytes c.deck a.status c.spelled,
     λ d spelled. its_end d c.deck c.run.end a.status (one_deck bytes c.deck d c.spelled spelled) c.run.ends (ap AnswerView.status c.run.is),
@@ -126,18 +127,18 @@ verified bytes a h = elim h [
 counted : (tasks : ℕ) (a : AnswerView) → IsLoadOf tasks a → IsOfItsEnd (load_deck tasks) a.status
 counted tasks a h = its_end (load_deck tasks) (load_deck tasks) h.end a.status refl h.ends (ap AnswerView.status h.is)
 
-due : (request : Request) (left : Option (List ℕ)) (a : AnswerView) → IsDue request left a → IsDueStatus request left a.status
-due requests.Scan None a h = tt
-due requests.Scan (Some bytes) a h = subst (λ (b : List ℕ). IsDueOf requests.Scan b a.status) h.1 (scanned h.0 a h.2)
-due requests.Seq None a h = tt
-due requests.Seq (Some bytes) a h = subst (λ (b : List ℕ). IsDueOf requests.Seq b a.status) h.1 (ran h.0 a h.2)
-due requests.Verify None a h = tt
-due requests.Verify (Some bytes) a h = subst (λ (b : List ℕ). IsDueOf requests.Verify b a.status) h.1 (verified h.0 a h.2)
-due (requests.Load tasks) left a h = counted tasks a h.2
+due : (request : Request) (left : Option (List ℕ)) (a : AnswerView) (told : List Row) → IsDue request left a told → IsDueStatus request left a.status
+due requests.Scan None a told h = tt
+due requests.Scan (Some bytes) a told h = subst (λ (b : List ℕ). IsDueOf requests.Scan b a.status) h.1 (scanned h.0 a h.2.0)
+due requests.Seq None a told h = tt
+due requests.Seq (Some bytes) a told h = subst (λ (b : List ℕ). IsDueOf requests.Seq b a.status) h.1 (ran h.0 a told h.2)
+due requests.Verify None a told h = tt
+due requests.Verify (Some bytes) a told h = subst (λ (b : List ℕ). IsDueOf requests.Verify b a.status) h.1 (verified h.0 a h.2.0)
+due (requests.Load tasks) left a told h = counted tasks a h.2.0
 
 pub is_complete : (request : Request) (call : Call) (s : Status) → Says request call s → IsComplete request call s
 is_complete request call s h = λ source sink memory. elim h [
-  | inl a ↦ subst (λ (x : Status). IsDueStatus request call.left x) (sym a.its_status) (due request call.left a.answer a.due)
+  | inl a ↦ subst (λ (x : Status). IsDueStatus request call.left x) (sym a.its_status) (due request call.left a.answer call.told a.due)
   | inr h ↦ elim h [
     | inl w ↦ absurd (sink w.sink)
     | inr h ↦ elim h [ inl r ↦ absurd (source r.source) | inr m ↦ absurd (memory m.is_memory) ]

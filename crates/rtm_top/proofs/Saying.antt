@@ -1,16 +1,18 @@
 -- What the parts of a call come to: a status for what was read, made and written.
 use Rattle.std.proofs.Common.{◌≡◌, ℕ, ◌≤◌, Bool, true, false, List, [], Option, Some, None, Result, Ok, Err, refl, sym, ap, subst, ◌∙◌, inl, inr, arith}
-use Rattle.std.specs.Prelude.{IfErr, IfOk, IfSome}
+use Rattle.std.specs.Prelude.{IfErr, IfOk, IfSome, IsErr}
 use Rattle.rtm_io.specs.Faults.{HasRisen}
 use Rattle.rtm_io.specs.Stream.{TakesAtMost}
 use Rattle.rtm_deck_items.specs.View.{DeckView}
+use Rattle.rtm_desk.specs.Told.{Row, told_by}
 use Rattle.rtm_model.specs.declared.entry.End.{End}
 use Rattle.rtm_model.specs.declared.entry.End.TheVariants.{Ended, Limit, Stalled}
 use Rattle.rtm_top.specs.declared.request.Request.{Request}
 use Rattle.rtm_top.specs.declared.request.Request.TheVariants as requests
-use Rattle.rtm_top.specs.Answer.{Call, IsAnswer, IsDue, IsSent, IsUnread, Says}
+use Rattle.rtm_top.specs.Answer.{AreToldUnanswered, AreToldWithoutMemory, Call, IsAnswer, IsDue, IsSent, IsUnmade, Says}
 use Rattle.rtm_top_answers.specs.Load.{IsLoadOf}
 use Rattle.rtm_top_answers.specs.Refusal.{IsRefusalOf}
+use Rattle.rtm_top_answers.specs.Run.{AreToldOfSeqOrNothing}
 use Rattle.rtm_top_answers.specs.Status.{status_of}
 use Rattle.rtm_top_answers.specs.Verify.{IsOfTrace}
 use Rattle.rtm_top_answers.specs.View.{AnswerView}
@@ -43,61 +45,61 @@ of_trace d bytes a h = elim h [
   | inr j ↦ elim j.judgement [ inl i ↦ by a _ i.is refl | inr h ↦ elim h [ inl w ↦ by a _ w.is refl | inr v ↦ by a _ v.is refl ] ]
 ]
 
-answer_is : (request : Request) (bytes : List ℕ) (a : AnswerView) → IsAnswer request bytes a → is_of_an_answer a.status ≡ true
+answer_is : (request : Request) (bytes : List ℕ) (a : AnswerView) (told : List Row) → IsAnswer request bytes a told → is_of_an_answer a.status ≡ true
 unfolding is_of_an_answer
-answer_is requests.Scan bytes a h = elim h [ inl r ↦ by a _ r.is refl | inr c ↦ by a _ c.is refl ]
-answer_is requests.Seq bytes a h = elim h [ inl r ↦ by a _ r.is refl | inr c ↦ by a _ c.run.is (end_is c.run.end) ]
-answer_is requests.Verify bytes a h = elim h [ inl r ↦ by a _ r.is refl | inr v ↦ of_trace v.deck _ a v.trace ]
-answer_is (requests.Load tasks) bytes a h = by a _ h.is (end_is h.end)
+answer_is requests.Scan bytes a told h = elim h.0 [ inl r ↦ by a _ r.is refl | inr c ↦ by a _ c.is refl ]
+answer_is requests.Seq bytes a told h = elim h [ inl r ↦ by a _ r.0.is refl | inr c ↦ by a _ c.run.is (end_is c.run.end) ]
+answer_is requests.Verify bytes a told h = elim h.0 [ inl r ↦ by a _ r.is refl | inr v ↦ of_trace v.deck _ a v.trace ]
+answer_is (requests.Load tasks) bytes a told h = by a _ h.0.is (end_is h.0.end)
 
 -- a status that no answer has isn't that of the answer
-never : (request : Request) (left : Option (List ℕ)) (a : AnswerView) (s : Status) → IsDue request left a → is_of_an_answer s ≡ false → a.status ≡ s → ⊥
-never request left a s due other e = true_false (sym (answer_is request due.0 a due.2) ∙ ap is_of_an_answer e ∙ other)
+never : (request : Request) (left : Option (List ℕ)) (a : AnswerView) (told : List Row) (s : Status) → IsDue request left a told → is_of_an_answer s ≡ false → a.status ≡ s → ⊥
+never request left a told s due other e = true_false (sym (answer_is request due.0 a told due.2) ∙ ap is_of_an_answer e ∙ other)
   where
     true_false : true ≡ false → ⊥
     true_false x = absurd cc
 
 -- a written answer's status is none of those, but for Write
-sent_is_no : (request : Request) (left : Option (List ℕ)) (a : AnswerView) (before now : ℕ) (old new : Option (List ℕ)) (s other : Status) → IsDue request left a → IsSent a before now old new s
+sent_is_no : (request : Request) (left : Option (List ℕ)) (a : AnswerView) (told : List Row) (before now : ℕ) (old new : Option (List ℕ)) (s other : Status) → IsDue request left a told → IsSent a before now old new s
     → is_of_an_answer other ≡ false → (status.Write ≡ other → ⊥) → s ≡ other → ⊥
-sent_is_no request left a before now old new s other due sent unlike differs e = elim sent [
-  | inl h ↦ never request left a other due unlike (sym h.0 ∙ e)
+sent_is_no request left a told before now old new s other due sent unlike differs e = elim sent [
+  | inl h ↦ never request left a told other due unlike (sym h.0 ∙ e)
   | inr h ↦ differs (sym h.0 ∙ e)
 ]
 
-pub sent_is_not_read : (request : Request) (left : Option (List ℕ)) (a : AnswerView) (before now : ℕ) (old new : Option (List ℕ)) (s : Status) → IsDue request left a → IsSent a before now old new s
+pub sent_is_not_read : (request : Request) (left : Option (List ℕ)) (a : AnswerView) (told : List Row) (before now : ℕ) (old new : Option (List ℕ)) (s : Status) → IsDue request left a told → IsSent a before now old new s
     → s ≡ status.Read → ⊥
 unfolding is_of_an_answer
-sent_is_not_read request left a before now old new s due sent = sent_is_no request left a before now old new s status.Read due sent refl (λ e. absurd cc)
+sent_is_not_read request left a told before now old new s due sent = sent_is_no request left a told before now old new s status.Read due sent refl (λ e. absurd cc)
 
-pub sent_is_not_memory : (request : Request) (left : Option (List ℕ)) (a : AnswerView) (before now : ℕ) (old new : Option (List ℕ)) (s : Status) → IsDue request left a → IsSent a before now old new s
+pub sent_is_not_memory : (request : Request) (left : Option (List ℕ)) (a : AnswerView) (told : List Row) (before now : ℕ) (old new : Option (List ℕ)) (s : Status) → IsDue request left a told → IsSent a before now old new s
     → s ≡ status.Memory → ⊥
 unfolding is_of_an_answer
-sent_is_not_memory request left a before now old new s due sent = sent_is_no request left a before now old new s status.Memory due sent refl (λ e. absurd cc)
+sent_is_not_memory request left a told before now old new s due sent = sent_is_no request left a told before now old new s status.Memory due sent refl (λ e. absurd cc)
 
-pub sent_is_not_words : (request : Request) (left : Option (List ℕ)) (a : AnswerView) (before now : ℕ) (old new : Option (List ℕ)) (s : Status) → IsDue request left a → IsSent a before now old new s
+pub sent_is_not_words : (request : Request) (left : Option (List ℕ)) (a : AnswerView) (told : List Row) (before now : ℕ) (old new : Option (List ℕ)) (s : Status) → IsDue request left a told → IsSent a before now old new s
     → s ≡ status.Words → ⊥
 unfolding is_of_an_answer
-sent_is_not_words request left a before now old new s due sent = sent_is_no request left a before now old new s status.Words due sent refl (λ e. absurd cc)
+sent_is_not_words request left a told before now old new s due sent = sent_is_no request left a told before now old new s status.Words due sent refl (λ e. absurd cc)
 
 -- ---- what a call says
 
-pub says_sent : (request : Request) (call : Call) (a : AnswerView) (s : Status) → IsDue request call.left a → call.source_now ≡ call.source_before
+pub says_sent : (request : Request) (call : Call) (a : AnswerView) (s : Status) → IsDue request call.left a call.told → call.source_now ≡ call.source_before
     → IsSent a call.sink_before call.sink_now call.written_before call.written_now s → Says request call s
 says_sent request call a s due source sent = elim sent [
   | inl h ↦ inl (record { answer = a; due = due; its_status = h.0; written = h.1; source = source; sink = h.2 })
   | inr h ↦ inr (inl (record { is_write = h.0; answer = a; due = due; written = h.1; source = source; sink = h.2 }))
 ]
 
-pub says_unread : (request : Request) (call : Call) (s : Status) → IsUnread call.source_before call.source_now s → call.written_now ≡ call.written_before → call.sink_now ≡ call.sink_before
-    → Says request call s
-says_unread request call s unread written sink = elim unread [
-  | inl h ↦ inr (inr (inl (record { is_read = h.0; written = written; source = h.1; sink = sink })))
-  | inr h ↦ inr (inr (inr (record { is_memory = h.0; written = written; source = h.1; sink = sink })))
+pub says_unmade : (request : Request) (call : Call) (s : Status) → IsUnmade request call.left call.told call.source_before call.source_now s → call.written_now ≡ call.written_before
+    → call.sink_now ≡ call.sink_before → Says request call s
+says_unmade request call s unmade written sink = elim unmade [
+  | inl h ↦ inr (inr (inl (record { is_read = h.0; written = written; source = h.1; sink = sink; managers = h.2 })))
+  | inr h ↦ inr (inr (inr (record { is_memory = h.0; managers = h.2; written = written; source = h.1; sink = sink })))
 ]
 
-pub unread_is_not_words : (before now : ℕ) (s : Status) → IsUnread before now s → s ≡ status.Words → ⊥
-unread_is_not_words before now s unread e = elim unread [ inl h ↦ clash_read (sym h.0 ∙ e) | inr h ↦ clash_memory (sym h.0 ∙ e) ]
+pub unmade_is_not_words : (request : Request) (left : Option (List ℕ)) (told : List Row) (before now : ℕ) (s : Status) → IsUnmade request left told before now s → s ≡ status.Words → ⊥
+unmade_is_not_words request left told before now s unmade e = elim unmade [ inl h ↦ clash_read (sym h.0 ∙ e) | inr h ↦ clash_memory (sym h.0 ∙ e) ]
   where
     clash_read : status.Read ≡ status.Words → ⊥
     clash_read x = absurd cc
@@ -110,10 +112,11 @@ says_same a b call s e h = subst (λ (r : Request). Says r call s) e h
 
 -- ---- what is made without reading
 
-pub due_load : {E : Type 0} (request : Request) (tasks : ℕ) (left : Option (List ℕ)) (r : Result AnswerView E) → request ≡ requests.Load tasks → IfOk r (IsLoadOf tasks) → IfOk r (IsDue request left)
-due_load request tasks None (Ok a) e h = ([], tt, subst (λ (q : Request). IsAnswer q [] a) (sym e) h)
-due_load request tasks (Some bytes) (Ok a) e h = (bytes, refl, subst (λ (q : Request). IsAnswer q bytes a) (sym e) h)
-due_load request tasks left (Err x) e h = tt
+pub due_load : {E : Type 0} (request : Request) (tasks : ℕ) (left : Option (List ℕ)) (told : List Row) (r : Result AnswerView E) → request ≡ requests.Load tasks → told ≡ told_by []
+    → IfOk r (IsLoadOf tasks) → IfOk r (λ a. IsDue request left a told)
+due_load request tasks None told (Ok a) e m h = ([], tt, subst (λ (q : Request). IsAnswer q [] a told) (sym e) (h, m))
+due_load request tasks (Some bytes) told (Ok a) e m h = (bytes, refl, subst (λ (q : Request). IsAnswer q bytes a told) (sym e) (h, m))
+due_load request tasks left told (Err x) e m h = tt
 
 -- a source that wasn't called has given nothing
 pub takes_none : (most : ℕ) (left : Option (List ℕ)) → TakesAtMost most left left
@@ -122,18 +125,51 @@ takes_none most (Some bytes) = (0, omega arith, refl)
 
 -- ---- what is made of the bytes that were read
 
-pub due_read : {E : Type 0} (request : Request) (bytes : List ℕ) (left : Option (List ℕ)) (r : Result AnswerView E) → IfSome left (λ told. bytes ≡ told) → IfOk r (IsAnswer request bytes)
-    → IfOk r (IsDue request left)
-due_read request bytes left (Ok a) all h = (bytes, all, h)
-due_read request bytes left (Err x) all h = tt
+pub due_read : {E : Type 0} (request : Request) (bytes : List ℕ) (left : Option (List ℕ)) (told : List Row) (r : Result AnswerView E) → IfSome left (λ read. bytes ≡ read)
+    → IfOk r (λ a. IsAnswer request bytes a told) → IfOk r (λ a. IsDue request left a told)
+due_read request bytes left told (Ok a) all h = (bytes, all, h)
+due_read request bytes left told (Err x) all h = tt
 
--- why nothing is written
-pub unread_for_memory : {A : Type 0} (before now : ℕ) (r : Result A Status) → IfErr r (λ s. s ≡ status.Memory) → now ≡ before → IfErr r (IsUnread before now)
-unread_for_memory before now (Ok a) h e = tt
-unread_for_memory before now (Err s) h e = inr (h, e)
+-- ---- what the managers were told where nothing is written
 
-pub unread_by_memory : (before now : ℕ) → now ≡ before → IsUnread before now status.Memory
-unread_by_memory before now e = inr (refl, e)
+-- an answer that comes while the managers were told nothing
+pub untold_yet : {A E : Type 0} (P : A → Type 0) (told : List Row) (r : Result A E) → told ≡ told_by [] → IfOk r P → IfOk r (λ a. P a × (told ≡ told_by []))
+untold_yet P told (Ok a) m h = (h, m)
+untold_yet P told (Err x) m h = tt
 
-pub unread_by_read : (before now : ℕ) → HasRisen before now → IsUnread before now status.Read
-unread_by_read before now h = inl (refl, h)
+untold : (request : Request) (bytes : List ℕ) (told : List Row) → told ≡ told_by [] → AreToldUnanswered request bytes told
+untold requests.Scan bytes told m = m
+untold requests.Seq bytes told m = inl m
+untold requests.Verify bytes told m = m
+untold (requests.Load tasks) bytes told m = m
+
+pub unanswered : {A E : Type 0} (request : Request) (bytes : List ℕ) (told : List Row) (r : Result A E) → told ≡ told_by [] → IfErr r (λ s. AreToldUnanswered request bytes told)
+unanswered request bytes told (Ok a) m = tt
+unanswered request bytes told (Err s) m = untold request bytes told m
+
+-- of a run: the status is an error exactly where its answer is one
+pub unanswered_run : {A B E F : Type 0} (bytes : List ℕ) (told : List Row) (answer : Result A E) (r : Result B F) → IfErr r (λ s. IsErr answer)
+    → IfErr answer (λ e. AreToldOfSeqOrNothing bytes told) → IfErr r (λ s. AreToldOfSeqOrNothing bytes told)
+unanswered_run bytes told answer (Ok b) is m = tt
+unanswered_run bytes told (Ok a) (Err s) is m = absurd is
+unanswered_run bytes told (Err e) (Err s) is m = m
+
+nothing_told : (request : Request) (left : Option (List ℕ)) (told : List Row) → told ≡ told_by [] → AreToldWithoutMemory request left told
+nothing_told request None told m = ([], tt, untold request [] told m)
+nothing_told request (Some bytes) told m = (bytes, refl, untold request bytes told m)
+
+pub unmade_read : {A : Type 0} (request : Request) (bytes : List ℕ) (left : Option (List ℕ)) (told : List Row) (before now : ℕ) (r : Result A Status) → IfSome left (λ read. bytes ≡ read)
+    → IfErr r (λ s. s ≡ status.Memory) → IfErr r (λ s. AreToldUnanswered request bytes told) → now ≡ before → IfErr r (IsUnmade request left told before now)
+unmade_read request bytes left told before now (Ok a) all is m e = tt
+unmade_read request bytes left told before now (Err s) all is m e = inr (is, e, (bytes, all, m))
+
+pub unmade_for_memory : {A : Type 0} (request : Request) (left : Option (List ℕ)) (told : List Row) (before now : ℕ) (r : Result A Status) → told ≡ told_by []
+    → IfErr r (λ s. s ≡ status.Memory) → now ≡ before → IfErr r (IsUnmade request left told before now)
+unmade_for_memory request left told before now (Ok a) m is e = tt
+unmade_for_memory request left told before now (Err s) m is e = inr (is, e, nothing_told request left told m)
+
+pub unmade_by_memory : (request : Request) (left : Option (List ℕ)) (told : List Row) (before now : ℕ) → told ≡ told_by [] → now ≡ before → IsUnmade request left told before now status.Memory
+unmade_by_memory request left told before now m e = inr (refl, e, nothing_told request left told m)
+
+pub unmade_by_read : (request : Request) (left : Option (List ℕ)) (told : List Row) (before now : ℕ) → told ≡ told_by [] → HasRisen before now → IsUnmade request left told before now status.Read
+unmade_by_read request left told before now m h = inl (refl, h, m)

@@ -9,6 +9,7 @@ use Rattle.rtm_cards.specs.Limits.{most_bytes}
 use Rattle.rtm_cards.specs.Lines.{number_at}
 use Rattle.rtm_deck_items.specs.declared.why.Why.TheVariants as whys
 use Rattle.rtm_deck_items.specs.Faults.{IsFirstFault}
+use Rattle.rtm_desk.specs.Told.{Row, told_by}
 use Rattle.rtm_top.specs.declared.request.Request.{Request}
 use Rattle.rtm_top.specs.declared.request.Request.TheVariants as requests
 use Rattle.rtm_top.specs.Answer.{IsAnswer, IsDue}
@@ -73,24 +74,25 @@ some_bytes None new line h =
 some_bytes (Some told) new line h = (told, refl, h.longer, too_long told line h.longer h.in_line)
 
 -- the refusal of an input with that first fault is what is to be written
-is_refusal : (request : Request) (bytes : List ℕ) (a : AnswerView) (card : ℕ) → Reads request → most_bytes < length bytes → IsFirstFault bytes card whys.TooLong
-    → a ≡ refusal card whys.TooLong → IsAnswer request bytes a
-is_refusal requests.Scan bytes a card reads long f e = inl (record { card = card; why = whys.TooLong; fault = f; is = e })
-is_refusal requests.Seq bytes a card reads long f e = inl (record { card = card; why = whys.TooLong; fault = f; is = e })
-is_refusal requests.Verify bytes a card reads long f e =
-    inl (record { card = card; why = whys.TooLong; fault = subst (λ (part : List ℕ). IsFirstFault part card whys.TooLong) (is_whole bytes long) f; is = e })
-is_refusal (requests.Load tasks) bytes a card reads long f e = absurd reads
+is_refusal : (request : Request) (bytes : List ℕ) (a : AnswerView) (told : List Row) (card : ℕ) → Reads request → most_bytes < length bytes → IsFirstFault bytes card whys.TooLong
+    → told ≡ told_by [] → a ≡ refusal card whys.TooLong → IsAnswer request bytes a told
+is_refusal requests.Scan bytes a told card reads long f m e = (inl (record { card = card; why = whys.TooLong; fault = f; is = e }), m)
+is_refusal requests.Seq bytes a told card reads long f m e = inl (record { card = card; why = whys.TooLong; fault = f; is = e }, m)
+is_refusal requests.Verify bytes a told card reads long f m e =
+    (inl (record { card = card; why = whys.TooLong; fault = subst (λ (part : List ℕ). IsFirstFault part card whys.TooLong) (is_whole bytes long) f; is = e }), m)
+is_refusal (requests.Load tasks) bytes a told card reads long f m e = absurd reads
 
 -- of more bytes than are read
-pub of_too_long : {E : Type 0} (request : Request) (left new : Option (List ℕ)) (line : ℕ) (r : Result AnswerView E) → Reads request → IsTooLong most_bytes left new line
-    → IfOk r (λ a. a ≡ refusal line whys.TooLong) → IfOk r (IsDue request left)
-of_too_long request left new line (Ok a) reads h e =
+pub of_too_long : {E : Type 0} (request : Request) (left new : Option (List ℕ)) (told : List Row) (line : ℕ) (r : Result AnswerView E) → Reads request → IsTooLong most_bytes left new line
+    → told ≡ told_by [] → IfOk r (λ a. a ≡ refusal line whys.TooLong) → IfOk r (λ a. IsDue request left a told)
+of_too_long request left new told line (Ok a) reads h m e =
     let some = some_bytes left new line h in
-    (some.0, some.1, is_refusal request some.0 a line reads some.2 some.3 e)
-of_too_long request left new line (Err x) reads h e = tt
+    (some.0, some.1, is_refusal request some.0 a told line reads some.2 some.3 m e)
+of_too_long request left new told line (Err x) reads h m e = tt
 
 -- the same of a fault that is that one
-pub of_fault : {E : Type 0} (request : Request) (left new : Option (List ℕ)) (before now line : ℕ) (fault : InFault) (r : Result AnswerView E) → Reads request
-    → fault ≡ TooLong line → IsInFault most_bytes left new before now fault → IfOk r (λ a. a ≡ refusal line whys.TooLong) → IfOk r (IsDue request left)
-of_fault request left new before now line fault r reads e h is =
-    of_too_long request left new line r reads (subst (λ (f : InFault). IsInFault most_bytes left new before now f) e h).0 is
+pub of_fault : {E : Type 0} (request : Request) (left new : Option (List ℕ)) (told : List Row) (before now line : ℕ) (fault : InFault) (r : Result AnswerView E) → Reads request
+    → fault ≡ TooLong line → IsInFault most_bytes left new before now fault → told ≡ told_by [] → IfOk r (λ a. a ≡ refusal line whys.TooLong)
+    → IfOk r (λ a. IsDue request left a told)
+of_fault request left new told before now line fault r reads e h m is =
+    of_too_long request left new told line r reads (subst (λ (f : InFault). IsInFault most_bytes left new before now f) e h).0 m is

@@ -1,12 +1,13 @@
 -- What an answer is of, by what was found in the bytes.
-use Rattle.std.proofs.Common.{◌≡◌, ℕ, ◌≤◌, List, length, Option, Some, None, Result, Ok, Err, subst, inl, inr}
-use Rattle.std.specs.Prelude.{IfOk}
+use Rattle.std.proofs.Common.{◌≡◌, ℕ, ◌≤◌, ◌⊎◌, List, [], length, Option, Some, None, Result, Ok, Err, subst, inl, inr}
+use Rattle.std.specs.Prelude.{IfErr, IfOk}
 use Rattle.rtm_deck_items.specs.declared.why.Why.{Why}
 use Rattle.rtm_deck_items.specs.Faults.{IsFirstFault}
 use Rattle.rtm_deck_items.specs.Spelling.{DeckText}
 use Rattle.rtm_deck_items.specs.View.{DeckView}
 use Rattle.rtm_trace_judge.specs.Judged.{IsFirstIllegal, IsJudged, IsWrongEnd}
 use Rattle.rtm_deck_load.specs.Deck.{load_deck}
+use Rattle.rtm_desk.specs.Told.{Row, told_by}
 use Rattle.rtm_model.specs.declared.entry.End.{End}
 use Rattle.rtm_model.specs.declared.entry.Entry.{Entry}
 use Rattle.rtm_model.specs.Legal.{Legal, end_of}
@@ -16,7 +17,7 @@ use Rattle.rtm_trace.specs.Lines.{IsFirstBadLine, IsTraceOf}
 use Rattle.rtm_trace.specs.View.{TraceView}
 use Rattle.rtm_top_answers.specs.Load.{IsLoadOf, counted_answer}
 use Rattle.rtm_top_answers.specs.Refusal.{refusal}
-use Rattle.rtm_top_answers.specs.Run.{IsRunBy, IsSeqAnswer, traced_answer}
+use Rattle.rtm_top_answers.specs.Run.{AreToldOfSeqOrNothing, IsRunBy, IsSeqAnswer, traced_answer}
 use Rattle.rtm_top_answers.specs.Scan.{IsScanAnswer, canonical}
 use Rattle.rtm_top_answers.specs.Verify.{IsJudgement, IsOfTrace, IsVerifyAnswer, bad_line, faulted_part, not_legal, verified_answer, wrong_end}
 use Rattle.rtm_top_answers.specs.View.{AnswerView}
@@ -36,20 +37,40 @@ scanned_deck bytes d (Err x) s e = tt
 
 -- ---- seq
 
-pub run_by : {E : Type 0} (d : DeckView) (history : List Entry) (end : End) (r : Result AnswerView E) → Legal d history → end_of d history ≡ Some end
-    → IfOk r (λ a. a ≡ traced_answer d history end) → IfOk r (IsRunBy d history)
-run_by d history end (Ok a) l n e = record { legal = l; end = end; ends = n; is = e }
-run_by d history end (Err x) l n e = tt
+pub run_by : {E : Type 0} (d : DeckView) (history : List Entry) (end : End) (told : List Row) (r : Result AnswerView E) → Legal d history → end_of d history ≡ Some end
+    → told ≡ told_by history → IfOk r (λ a. a ≡ traced_answer d history end) → IfOk r (λ a. IsRunBy d history a told)
+run_by d history end told (Ok a) l n m e = record { legal = l; end = end; ends = n; is = e; managers = m }
+run_by d history end told (Err x) l n m e = tt
 
-pub run_fault : {E : Type 0} (bytes : List ℕ) (card : ℕ) (why : Why) (r : Result AnswerView E) → IsFirstFault bytes card why
-    → IfOk r (λ a. a ≡ refusal card why) → IfOk r (IsSeqAnswer bytes)
-run_fault bytes card why (Ok a) f e = inl (record { card = card; why = why; fault = f; is = e })
-run_fault bytes card why (Err x) f e = tt
+pub told_none : {E : Type 0} (history : List Entry) (told : List Row) (r : Result AnswerView E) → told ≡ told_by []
+    → IfErr r (λ e. (told ≡ told_by []) ⊎ (told ≡ told_by history))
+told_none history told (Ok a) m = tt
+told_none history told (Err x) m = inl m
 
-pub run_deck : {E : Type 0} (bytes : List ℕ) (d : DeckView) (r : Result AnswerView E) → DeckText bytes d
-    → IfOk r (IsRunBy d (seq d)) → IfOk r (IsSeqAnswer bytes)
-run_deck bytes d (Ok a) s run = inr (record { deck = d; spelled = s; run = run })
-run_deck bytes d (Err x) s run = tt
+pub told_all : {E : Type 0} (history : List Entry) (told : List Row) (r : Result AnswerView E) → told ≡ told_by history
+    → IfErr r (λ e. (told ≡ told_by []) ⊎ (told ≡ told_by history))
+told_all history told (Ok a) m = tt
+told_all history told (Err x) m = inr m
+
+pub run_fault : {E : Type 0} (bytes : List ℕ) (card : ℕ) (why : Why) (told : List Row) (r : Result AnswerView E) → IsFirstFault bytes card why → told ≡ told_by []
+    → IfOk r (λ a. a ≡ refusal card why) → IfOk r (λ a. IsSeqAnswer bytes a told)
+run_fault bytes card why told (Ok a) f m e = inl (record { card = card; why = why; fault = f; is = e }, m)
+run_fault bytes card why told (Err x) f m e = tt
+
+pub run_deck : {E : Type 0} (bytes : List ℕ) (d : DeckView) (told : List Row) (r : Result AnswerView E) → DeckText bytes d
+    → IfOk r (λ a. IsRunBy d (seq d) a told) → IfOk r (λ a. IsSeqAnswer bytes a told)
+run_deck bytes d told (Ok a) s run = inr (record { deck = d; spelled = s; run = run })
+run_deck bytes d told (Err x) s run = tt
+
+pub told_nothing : {E : Type 0} (bytes : List ℕ) (told : List Row) (r : Result AnswerView E) → told ≡ told_by []
+    → IfErr r (λ e. AreToldOfSeqOrNothing bytes told)
+told_nothing bytes told (Ok a) m = tt
+told_nothing bytes told (Err x) m = inl m
+
+pub told_deck : {E : Type 0} (bytes : List ℕ) (d : DeckView) (told : List Row) (r : Result AnswerView E) → DeckText bytes d
+    → IfErr r (λ e. (told ≡ told_by []) ⊎ (told ≡ told_by (seq d))) → IfErr r (λ e. AreToldOfSeqOrNothing bytes told)
+told_deck bytes d told (Ok a) s m = tt
+told_deck bytes d told (Err x) s m = elim m [ inl none ↦ inl none | inr all ↦ inr (record { deck = d; spelled = s; managers = all }) ]
 
 -- ---- load
 

@@ -9,3 +9,4 @@ pub use Rattle.rtm_cards.specs.Limits
 pub use Rattle.rtm_model.specs.Fits
 pub use Rattle.rtm_model.specs.Legal
 pub use Rattle.rtm_model.specs.Turns
+pub use Rattle.rtm_desk.specs.Told

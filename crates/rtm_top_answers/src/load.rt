@@ -1,15 +1,19 @@
 //! What is written of a load.
 
-ghost use Rattle.std.specs.Prelude.{◌≡◌, ◌≤◌, ◌++◌, IfOk, OnOk, length};
+ghost use Rattle.std.specs.Prelude.{◌≡◌, ◌≤◌, ◌++◌, [], IfOk, OnOk, length, map};
 ghost use Rattle.std.specs.List.{count_by};
+ghost use Rattle.rtm_deck_load.specs.Deck.{load_deck};
+ghost use Rattle.rtm_desk.specs.Told.{told_by};
 ghost use Rattle.rtm_top_answers.specs.Load.{IsLoadOf, counted_answer, load_line, release_count};
 
 use crate::answer::Answer;
-use crate::run::system_after_run;
 use crate::status::Status;
 use rtm_codes::NoMemory;
+use rtm_crew::{NoRun, run_with};
+use rtm_deck_items::Deck;
 use rtm_deck_load::load_deck;
-use rtm_model::{End, Entry, What};
+use rtm_desk::MemManager;
+use rtm_model::{End, Entry, Res, What};
 use rtm_trace::{end_word, push};
 use std::alloc::Global;
 
@@ -49,14 +53,37 @@ fn counted_answer(alloc: Global, tasks: u8, entries: &[Entry], end: End) -> Resu
     })
 }
 
-/// What is to be written of the deck that is made of so many tasks, 1 to 60, once it has run: the numbers of its
-/// entries and of its releases, and its end.
+// The line that counts the entries of the run of that deck, with these managers.
 #[tactic(auto, using(crate::proofs::Answers::load_of))]
+fn run_counted(
+    alloc: Global,
+    tasks: u8,
+    deck: Deck,
+    managers: Vec<MemManager>,
+) -> Result<Answer, NoMemory>
+    requires deck { deck ≡ load_deck tasks }
+    requires managers { map (λ m. (m.class, m.released)) managers.items ≡ told_by [] }
+    ensures { IfOk result (IsLoadOf tasks) }
+{
+    match run_with::<MemManager>(alloc, deck, managers) {
+        Ok((region, end)) => counted_answer(alloc, tasks, region.system().trace(), end),
+        Err(NoRun { .. }) => Err(NoMemory),
+    }
+}
+
+/// What is to be written of the deck that is made of so many tasks, 1 to 60, once it has run: the numbers of its
+/// entries and of its releases, and its end. Managers of its own are told of the releases.
 pub fn load_answer(alloc: Global, tasks: u8) -> Result<Answer, NoMemory>
     requires least { 1 ≤ tasks }
     requires most { tasks ≤ 60 }
     ensures { IfOk result (IsLoadOf tasks) }
 {
-    let (system, end) = system_after_run(alloc, load_deck(alloc, tasks)?)?;
-    counted_answer(alloc, tasks, system.trace(), end)
+    let deck = load_deck(alloc, tasks)?;
+    let managers = vec![in alloc;
+        MemManager::new(alloc, Res::Enq),
+        MemManager::new(alloc, Res::Stor),
+        MemManager::new(alloc, Res::Dsn),
+        MemManager::new(alloc, Res::Timr),
+    ]?;
+    run_counted(alloc, tasks, deck, managers)
 }

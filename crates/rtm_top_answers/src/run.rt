@@ -1,34 +1,22 @@
 //! What is written of a deck that is run on one thread.
 
-ghost use Rattle.std.specs.Prelude.{◌≡◌, IfOk, Some};
-ghost use Rattle.rtm_model.specs.Legal.{end_of};
+ghost use Rattle.std.specs.Prelude.{◌≡◌, ◌⊎◌, [], IfErr, IfOk};
+ghost use Rattle.rtm_desk.specs.Told.{told_by, told_to};
 ghost use Rattle.rtm_model.specs.Turns.{seq};
-ghost use Rattle.rtm_top_answers.specs.Run.{IsRunBy, IsSeqAnswer, traced_answer};
+ghost use Rattle.rtm_top_answers.specs.Run.{AreToldOfSeqOrNothing, IsRunBy, IsSeqAnswer, traced_answer};
 
 use crate::answer::Answer;
 use crate::refusals::refusal;
 use crate::status::Status;
-use rtm_board::all_notes;
 use rtm_codes::NoMemory;
-use rtm_crew::seq_run;
+use rtm_crew::{NoRun, run_with};
 use rtm_deck::{DeckFault, read_deck};
 use rtm_deck_items::Deck;
+use rtm_desk::Manager;
 use rtm_model::End;
 use rtm_system::System;
 use rtm_trace::trace_text;
 use std::alloc::Global;
-
-/// A system of the deck that has run on one thread, and how its history ends.
-pub(crate) fn system_after_run(alloc: Global, deck: Deck) -> Result<(System, End), NoMemory>
-    ensures deck { IfOk result (λ run. run.0.deck ≡ deck) }
-    ensures trace { IfOk result (λ run. run.0.trace ≡ seq deck) }
-    ensures end { IfOk result (λ run. end_of deck run.0.trace ≡ Some run.1) }
-{
-    let mut notes = all_notes(alloc, &deck)?;
-    let mut system = System::new(alloc, deck)?;
-    let end = seq_run(&mut system, &mut notes);
-    Ok((system, end))
-}
 
 // The trace of a system, to its end.
 fn traced_answer(alloc: Global, system: &System, end: End) -> Result<Answer, NoMemory>
@@ -40,24 +28,49 @@ fn traced_answer(alloc: Global, system: &System, end: End) -> Result<Answer, NoM
     })
 }
 
-// What is written of a deck that is run.
-#[tactic(auto, using(crate::proofs::Answers::run_by))]
-fn run_answer(alloc: Global, deck: Deck) -> Result<Answer, NoMemory>
-    ensures { IfOk result (IsRunBy deck (seq deck)) }
+// What is written of a deck that is run, and the managers, told of its releases. Where memory is wanting before the
+// first entry they were told nothing, and where the text can't be made they were told of all.
+#[tactic(auto, using(crate::proofs::Answers::run_by, crate::proofs::Answers::told_all, crate::proofs::Answers::told_none))]
+fn run_answer<M: Manager>(
+    alloc: Global,
+    deck: Deck,
+    managers: Vec<M>,
+) -> (Result<Answer, NoMemory>, Vec<M>)
+    requires { told_to M.class M.released managers.items ≡ told_by [] }
+    ensures made { IfOk result.0 (λ answer.
+        IsRunBy deck (seq deck) answer (told_to M.class M.released result.1.items)) }
+    ensures refused { IfErr result.0 (λ e.
+        (told_to M.class M.released result.1.items ≡ told_by [])
+        ⊎ (told_to M.class M.released result.1.items ≡ told_by (seq deck))) }
 {
-    let (system, end) = system_after_run(alloc, deck)?;
-    system.trace();
-    traced_answer(alloc, &system, end)
+    match run_with::<M>(alloc, deck, managers) {
+        Ok((region, end)) => {
+            let (system, managers) = region.into_parts();
+            system.trace();
+            (traced_answer(alloc, &system, end), managers)
+        }
+        Err(NoRun { managers }) => (Err(NoMemory), managers),
+    }
 }
 
-/// What is to be written for the bytes of a deck under the word `seq`: the trace of its run, or its first fault.
-#[tactic(auto, using(crate::proofs::Answers::run_deck, crate::proofs::Answers::run_fault))]
-pub fn seq_answer(alloc: Global, bytes: &[u8]) -> Result<Answer, NoMemory>
-    ensures { IfOk result (IsSeqAnswer bytes.now) }
+/// What is to be written for the bytes of a deck under the word `seq`: the trace of its run, or its first fault. These
+/// managers are told of the releases of the run. There are four of them, in the order of the classes, ENQ, STOR, DSN,
+/// TIMR, and they were told nothing yet; they come back in that order.
+#[tactic(auto, using(crate::proofs::Answers::run_deck, crate::proofs::Answers::run_fault, crate::proofs::Answers::told_deck, crate::proofs::Answers::told_nothing))]
+pub fn seq_answer<M: Manager>(
+    alloc: Global,
+    bytes: &[u8],
+    managers: Vec<M>,
+) -> (Result<Answer, NoMemory>, Vec<M>)
+    requires { told_to M.class M.released managers.items ≡ told_by [] }
+    ensures made { IfOk result.0 (λ answer.
+        IsSeqAnswer bytes.now answer (told_to M.class M.released result.1.items)) }
+    ensures refused { IfErr result.0 (λ e.
+        AreToldOfSeqOrNothing bytes.now (told_to M.class M.released result.1.items)) }
 {
     match read_deck(alloc, bytes) {
-        Ok(deck) => run_answer(alloc, deck),
-        Err(DeckFault::Memory) => Err(NoMemory),
-        Err(DeckFault::Refused { card, why }) => refusal(alloc, card, why),
+        Ok(deck) => run_answer::<M>(alloc, deck, managers),
+        Err(DeckFault::Memory) => (Err(NoMemory), managers),
+        Err(DeckFault::Refused { card, why }) => (refusal(alloc, card, why), managers),
     }
 }

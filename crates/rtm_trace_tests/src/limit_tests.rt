@@ -2,7 +2,9 @@
 
 mod limits;
 
+use rtm_desk::{Manager, MemManager};
 use rtm_io::{MemSink, MemSource};
+use rtm_model::Res;
 use rtm_top::{RtmWord, Status, plain_words};
 use std::alloc::{AllocError, Global};
 use std::test::Fail;
@@ -34,7 +36,12 @@ fn run(alloc: Global, deck: &str) -> Result<(MemSink, Status), Fail> {
     let bytes = Vec::from_slice(alloc, deck.as_bytes())?;
     let mut src = MemSource::new(bytes, Vec::new(alloc));
     let mut out = MemSink::new(alloc, 2_000_000, Vec::new(alloc))?;
-    let outcome = plain_words(alloc, &words, &mut src, &mut out);
+    let mut managers: Vec<Box<dyn Manager + Send>> = Vec::new(alloc);
+    managers.push(Box::new(alloc, MemManager::new(alloc, Res::Enq))?)?;
+    managers.push(Box::new(alloc, MemManager::new(alloc, Res::Stor))?)?;
+    managers.push(Box::new(alloc, MemManager::new(alloc, Res::Dsn))?)?;
+    managers.push(Box::new(alloc, MemManager::new(alloc, Res::Timr))?)?;
+    let outcome = plain_words(alloc, &words, &mut src, &mut out, managers);
     Ok((out, outcome.status))
 }
 

@@ -2,12 +2,15 @@
 #![tactic(auto)]
 
 ghost use Rattle.std.specs.Prelude.{◌≡◌, IfErr, IfOk, drop, map, string_bytes};
+ghost use Rattle.rtmrun.specs.Call.{IsCall};
 ghost use Rattle.rtmrun.specs.Words.{HasNoWords};
 ghost use Rattle.std.specs.Process.{exit_status};
 ghost use Rattle.rtm_top_answers.specs.Status.{status_number};
 
-use rtm_io::{StdSink, StdSource};
-use rtm_top::{Outcome, RtmWord, Status, plain_words};
+use rtm_desk::{Manager, MemManager};
+use rtm_io::{Sink, Source, StdSink, StdSource};
+use rtm_model::Res;
+use rtm_top::{RtmWord, Status, plain_words};
 use std::alloc::{AllocError, Global};
 use std::env;
 use std::io::ErrorKind;
@@ -39,11 +42,39 @@ fn all_words<R: Env + AllocGlobal>(rt: &R) -> Result<Vec<String>, Status>
     }
 }
 
-// The number with which the program ends.
-fn exit_code(outcome: &Outcome) -> ExitCode
-    ensures { exit_status result ≡ status_number outcome.now.status }
+// Does what the words say, with managers in memory that are told of the releases of a run, and are dropped when it is
+// over.
+fn called<S: Source, K: Sink>(
+    alloc: Global,
+    words: &[RtmWord],
+    src: &mut S,
+    out: &mut K,
+) -> Result<Status, AllocError>
+    ensures { IfOk result (IsCall words.now (λ told. record {
+      left = S.left src.old;
+      source_before = S.faults src.old;
+      source_now = S.faults src.new;
+      sink_before = K.faults out.old;
+      sink_now = K.faults out.new;
+      written_before = K.written out.old;
+      written_now = K.written out.new;
+      told = told;
+    })) }
 {
-    ExitCode::from(outcome.status.exit_status())
+    let mut managers: Vec<Box<dyn Manager + Send>> = Vec::new(alloc);
+    managers.push(Box::new(alloc, MemManager::new(alloc, Res::Enq))?)?;
+    managers.push(Box::new(alloc, MemManager::new(alloc, Res::Stor))?)?;
+    managers.push(Box::new(alloc, MemManager::new(alloc, Res::Dsn))?)?;
+    managers.push(Box::new(alloc, MemManager::new(alloc, Res::Timr))?)?;
+    let outcome = plain_words(alloc, words, src, out, managers);
+    Ok(outcome.status)
+}
+
+// The number with which the program ends.
+fn exit_code(status: Status) -> ExitCode
+    ensures { exit_status result ≡ status_number status }
+{
+    ExitCode::from(status.exit_status())
 }
 
 fn main(rt: HostRuntime) -> ExitCode {
@@ -51,13 +82,16 @@ fn main(rt: HostRuntime) -> ExitCode {
         Ok(all) => words_behind(rt.alloc(), all).map_err(|_| Status::Memory),
         Err(status) => Err(status),
     };
-    let outcome = match words {
+    let status = match words {
         Ok(words) => {
             let mut src = StdSource::over(rt.stdin());
             let mut out = StdSink::over(rt.stdout());
-            plain_words(rt.alloc(), &words, &mut src, &mut out)
+            match called(rt.alloc(), &words, &mut src, &mut out) {
+                Ok(status) => status,
+                Err(AllocError) => Status::Memory,
+            }
         }
-        Err(status) => Outcome { status },
+        Err(status) => status,
     };
-    exit_code(&outcome)
+    exit_code(status)
 }

@@ -3,10 +3,8 @@
 use super::Row;
 use rtm_top::Status;
 
-pub static ROWS: [Row; 3] = [
-    Row {
-        name: "MEMTERM purges all units, and the master releases what they hold",
-        deck: "MAIN PROG
+/// Two tasks, and a MEMTERM while both hold something.
+pub const MEMTERM: &str = "MAIN PROG
  GET ENQ,1
  GET DSN,7
  ATTACHX A
@@ -27,7 +25,12 @@ R PROG
 JOB TASK PGM=MAIN
 A TASK PGM=PA
  END
-",
+";
+
+pub static ROWS: [Row; 3] = [
+    Row {
+        name: "MEMTERM purges all units, and the master releases what they hold",
+        deck: MEMTERM,
         status: Status::Fine,
         trace: "RTMTRACE 1
 0 JOB EXEC MAIN.1 RC=0

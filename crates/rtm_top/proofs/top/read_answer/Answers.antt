@@ -8,4 +8,4 @@ use Rattle.rtm_top_answers.specs.Refusal.{refusal}
 pub returns-in-Err-TooLong-clause-ok : goal.returns-in-Err-TooLong-clause-ok
 returns-in-Err-TooLong-clause-ok g c =
     let is = subst (λ (n : ℕ). IfOk c.too_long_answer.result (λ a. a ≡ refusal n whys.TooLong)) c.in-Err-TooLong.line-is c.too_long_answer.ensures.ok in
-    of_fault c.args.request _ _ _ _ c.in-Err-TooLong.line c.in-Err-TooLong.field-0 c.too_long_answer.result c.requires c.in-Err-TooLong.field-0-is c.in-Err-TooLong.ensures.fault is
+    of_fault c.args.request _ _ _ _ _ c.in-Err-TooLong.line c.in-Err-TooLong.field-0 c.too_long_answer.result c.requires.reads c.in-Err-TooLong.field-0-is c.in-Err-TooLong.ensures.fault c.requires.untold is

@@ -5,7 +5,7 @@ use Rattle.rtm_model.specs.Turns.{turn_after}
 use Rattle.rtm_system.specs.Turned.{IsNext, turn_of}
 use Rattle.rtm_system.specs.View.{SystemView}
 use Rattle.rtm_crew.proofs.TurnLemmas.{all_left, all_made, next_turn, nobodys_turn}
-use Rattle.rtm_crew.proofs.run.run_region.Goals as goal
+use Rattle.rtm_crew.proofs.run.seq_run.Goals as goal
 
 pub turns-init : goal.turns-init
 turns-init g c = record { deck = refl; turn_in = omega arith; notes = c.requires.notes; so_far = all_left c.args.region.now.system c.requires.start }

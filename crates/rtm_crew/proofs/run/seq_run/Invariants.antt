@@ -2,7 +2,7 @@ use Rattle.std.proofs.Common.{◌≡◌, ◌≤◌, ◌-◌, length}
 use Rattle.rtm_model.specs.Turns.{seq}
 use Rattle.rtm_board.specs.All.{AreAll}
 use Rattle.rtm_crew.proofs.TurnLemmas.{made_and_left}
-use Rattle.rtm_crew.proofs.run.run_region.Given as goal
+use Rattle.rtm_crew.proofs.run.seq_run.Given as goal
 
 -- What was made and what follows is the whole.
 abbrev pub invariant-turns : goal.invariant-turns
