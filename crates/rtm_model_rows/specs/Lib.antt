@@ -10,6 +10,8 @@ pub mod RetryInsideARoutine
 pub mod FailureOfARoutine
 pub mod CancelInsideARoutine
 pub mod CancelHeldOff
+pub mod CancelPassesARoutine
+pub mod CancelDiesAtBegin
 pub mod CancelWhileAnFrrLives
 pub mod StopByAnEstai
 pub mod InheritedEstai
