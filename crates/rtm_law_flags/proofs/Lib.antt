@@ -4,3 +4,5 @@ pub mod Shared
 pub mod Commands
 pub mod Once
 pub mod Beginnings
+pub mod Births
+pub mod Names
