@@ -34,7 +34,8 @@ pub record AreBornOnce (d : DeckView) (history : List Entry) : Type 0 where
   pub managers : IsBornOnce managers d history
   pub holdings : IsBornOnce holdings d history
   pub aborts : IsBornOnce aborts d history
-  pub blocks : (x : UnitBlock) (place other_place : Place) (i j : ℕ) (e other : Entry) → IsAt history i e → IsAt history j other
+  pub blocks : (x : UnitBlock) (place other_place : Place) (i j : ℕ) (e other : Entry) → IsAt history i e
+      → IsAt history j other
       → StateTable.makes blocks d (before d history i) i e x place
       → StateTable.makes blocks d (before d history j) j other x other_place → i ≡ j
 

@@ -48,9 +48,8 @@ pub fn each_thing_is_born_once()
         → AreBornOnce d h }
 {}
 
-/// At every moment of a legal history the open brackets of a unit are those of the ENTERs that entries name, each with
-/// the routine of its ENTER and the error of the ERROR or LAND that they name; and each was entered after the one around
-/// it.
+/// At every moment of a legal history a unit's open brackets are those of the ENTERs that entries name, each with the
+/// routine of its ENTER and the error of the ERROR or LAND that they name; and each was entered after the one around it.
 pub fn entries_name_each_bracket_and_error()
     ensures { (d : DeckView) (h : List Entry) (i u : ℕ) → IsTrue (is_well_formed d) → Legal d h
         → HasNamedBrackets d (take i h) u }
