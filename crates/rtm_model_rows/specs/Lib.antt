@@ -12,6 +12,7 @@ pub mod CancelInsideARoutine
 pub mod CancelHeldOff
 pub mod CancelPassesARoutine
 pub mod CancelDiesAtBegin
+pub mod DetachDiesAtPurge
 pub mod CancelWhileAnFrrLives
 pub mod StopByAnEstai
 pub mod InheritedEstai

@@ -13,6 +13,7 @@ ghost use Rattle.rtm_model_rows.specs.CancelHeldOff as cancel_held_off_row;
 ghost use Rattle.rtm_model_rows.specs.CancelPassesARoutine as cancel_passes_a_routine_row;
 ghost use Rattle.rtm_model_rows.specs.CancelWhileAnFrrLives as cancel_while_an_frr_lives_row;
 ghost use Rattle.rtm_model_rows.specs.DenseRecovery as dense_recovery_row;
+ghost use Rattle.rtm_model_rows.specs.DetachDiesAtPurge as detach_dies_at_purge_row;
 ghost use Rattle.rtm_model_rows.specs.NightlyBatch as nightly_batch_row;
 ghost use Rattle.rtm_model_rows.specs.SrbAndRelatedTask as srb_and_related_task_row;
 ghost use Rattle.rtm_model_rows.specs.TwoAborts as two_aborts_row;
@@ -25,6 +26,11 @@ pub fn cancel_that_dies_keeps_the_law()
 /// A cancel that is held off for ever keeps the law.
 pub fn cancel_held_off_keeps_the_law()
     ensures { keeps_aborts cancel_held_off_row.deck cancel_held_off_row.history ≡ true }
+{}
+
+/// A DETACH that is pending until its task is purged keeps the law.
+pub fn detach_that_dies_keeps_the_law()
+    ensures { keeps_aborts detach_dies_at_purge_row.deck detach_dies_at_purge_row.history ≡ true }
 {}
 
 /// A LAND names an entry that queued its abort: not a SETFRR.
@@ -71,6 +77,13 @@ pub fn landing_after_the_begin()
     ensures { keeps_aborts cancel_dies_at_begin_row.deck
         (front_and cancel_dies_at_begin_row.history 6
         (land 0 Cancel 1 (full_mark (Sys 0x222) None true false false))) ≡ false }
+{}
+
+/// After its PURGE no abort lands in a unit.
+pub fn landing_after_the_purge()
+    ensures { keeps_aborts detach_dies_at_purge_row.deck
+        (front_and detach_dies_at_purge_row.history 10
+        (land 1 Detach 6 (full_mark (Sys 0x13E) None true false false))) ≡ false }
 {}
 
 /// A routine that may be interrupted doesn't run on while an abort is pending.
