@@ -20,3 +20,4 @@ pub mod Alongside
 pub mod Distinct
 pub mod Following
 pub mod Ends
+pub mod Order

@@ -1,13 +1,14 @@
 //! Each law is the contract of a function that does nothing.
 
-ghost use Rattle.std.specs.Prelude.{IsTrue, List, ℕ, ◌<◌};
+ghost use Rattle.std.specs.Prelude.{IsTrue, List, ℕ, ◌++◌, ◌<◌};
 ghost use Rattle.rtm_deck_items.specs.View.{DeckView};
 ghost use Rattle.rtm_deck_items.specs.WellFormed.{is_well_formed};
 ghost use Rattle.rtm_model.specs.Advance.{world};
 ghost use Rattle.rtm_model.specs.ChainLaw.{ChainLaw};
 ghost use Rattle.rtm_model.specs.Course.{HasCourses};
+ghost use Rattle.rtm_model.specs.Eligible.{AreFalling};
 ghost use Rattle.rtm_model.specs.Legal.{Legal};
-ghost use Rattle.rtm_model.specs.Moments.{IsIn};
+ghost use Rattle.rtm_model.specs.Moments.{IsIn, core_before};
 ghost use Rattle.rtm_model.specs.World.{Core, core_at};
 ghost use Rattle.rtm_model.specs.declared.entry.Entry.{Entry};
 ghost use Rattle.rtm_model.specs.declared.reg.Reg.{Reg};
@@ -33,4 +34,11 @@ pub fn each_frr_is_younger_than_each_estae_routine()
     ensures { (d : DeckView) (h : List Entry) (u : ℕ) (frr estae : Reg)
         → IsTrue (is_well_formed d) → Legal d h → IsIn frr (Core.frrs (core_at u (world d h)))
         → IsIn estae (Core.estaes (core_at u (world d h))) → estae.born < frr.born }
+{}
+
+/// At every moment of a legal history the FRRs of a unit, and behind them its ESTAE routines, stand in one order: each
+/// is older than the one before it.
+pub fn recovery_routines_stand_in_one_order()
+    ensures { (d : DeckView) (h : List Entry) (i u : ℕ) → IsTrue (is_well_formed d) → Legal d h
+        → AreFalling (Core.frrs (core_before d h i u) ++ Core.estaes (core_before d h i u)) }
 {}

@@ -10,6 +10,9 @@ pub mod RetryInsideARoutine
 pub mod FailureOfARoutine
 pub mod CancelInsideARoutine
 pub mod CancelHeldOff
+pub mod CancelPassesARoutine
+pub mod CancelDiesAtBegin
+pub mod DetachDiesAtPurge
 pub mod CancelWhileAnFrrLives
 pub mod StopByAnEstai
 pub mod InheritedEstai

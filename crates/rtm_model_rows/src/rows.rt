@@ -15,6 +15,9 @@ ghost use Rattle.rtm_model_rows.specs.RetryInsideARoutine as retry_inside_a_rout
 ghost use Rattle.rtm_model_rows.specs.FailureOfARoutine as failure_of_a_routine_row;
 ghost use Rattle.rtm_model_rows.specs.CancelInsideARoutine as cancel_inside_a_routine_row;
 ghost use Rattle.rtm_model_rows.specs.CancelHeldOff as cancel_held_off_row;
+ghost use Rattle.rtm_model_rows.specs.CancelPassesARoutine as cancel_passes_a_routine_row;
+ghost use Rattle.rtm_model_rows.specs.CancelDiesAtBegin as cancel_dies_at_begin_row;
+ghost use Rattle.rtm_model_rows.specs.DetachDiesAtPurge as detach_dies_at_purge_row;
 ghost use Rattle.rtm_model_rows.specs.CancelWhileAnFrrLives as cancel_while_an_frr_lives_row;
 ghost use Rattle.rtm_model_rows.specs.StopByAnEstai as stop_by_an_estai_row;
 ghost use Rattle.rtm_model_rows.specs.InheritedEstai as inherited_estai_row;
@@ -118,6 +121,30 @@ pub fn cancel_held_off()
     ensures legal { Legal cancel_held_off_row.deck cancel_held_off_row.history }
     ensures ends { end_of cancel_held_off_row.deck cancel_held_off_row.history ≡ Some Stalled }
     ensures in_turns { seq cancel_held_off_row.deck ≡ cancel_held_off_row.history }
+{}
+
+/// A cancel lands inside a routine: of the others the one with TERM=YES alone gets control.
+pub fn cancel_passes_a_routine()
+    ensures legal { Legal cancel_passes_a_routine_row.deck cancel_passes_a_routine_row.history }
+    ensures ends { end_of cancel_passes_a_routine_row.deck cancel_passes_a_routine_row.history
+        ≡ Some Ended }
+    ensures in_turns { seq cancel_passes_a_routine_row.deck ≡ cancel_passes_a_routine_row.history }
+{}
+
+/// A cancel that is pending when its task begins to end lands no more.
+pub fn cancel_dies_at_begin()
+    ensures legal { Legal cancel_dies_at_begin_row.deck cancel_dies_at_begin_row.history }
+    ensures ends { end_of cancel_dies_at_begin_row.deck cancel_dies_at_begin_row.history
+        ≡ Some Ended }
+    ensures in_turns { seq cancel_dies_at_begin_row.deck ≡ cancel_dies_at_begin_row.history }
+{}
+
+/// A DETACH that is pending when memory end purges its task lands no more.
+pub fn detach_dies_at_purge()
+    ensures legal { Legal detach_dies_at_purge_row.deck detach_dies_at_purge_row.history }
+    ensures ends { end_of detach_dies_at_purge_row.deck detach_dies_at_purge_row.history
+        ≡ Some Ended }
+    ensures in_turns { seq detach_dies_at_purge_row.deck ≡ detach_dies_at_purge_row.history }
 {}
 
 /// Two cancels become one, which lands once the FRR is gone.
