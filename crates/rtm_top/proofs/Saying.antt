@@ -151,7 +151,10 @@ unanswered request bytes told (Err s) m = untold request bytes told m
 pub unanswered_run : {A B E F : Type 0} (bytes : List ℕ) (told : List Row) (answer : Result A E) (r : Result B F) → IfErr r (λ s. IsErr answer)
     → IfErr answer (λ e. AreToldOfSeqOrNothing bytes told) → IfErr r (λ s. AreToldOfSeqOrNothing bytes told)
 unanswered_run bytes told answer (Ok b) is m = tt
-unanswered_run bytes told (Ok a) (Err s) is m = absurd is
+unanswered_run bytes told (Ok a) (Err s) is m = absurd (false_true is)
+  where
+    false_true : false ≡ true → ⊥
+    false_true x = absurd cc
 unanswered_run bytes told (Err e) (Err s) is m = m
 
 nothing_told : (request : Request) (left : Option (List ℕ)) (told : List Row) → told ≡ told_by [] → AreToldWithoutMemory request left told

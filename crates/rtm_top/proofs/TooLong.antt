@@ -4,7 +4,7 @@ use Rattle.std.specs.Prelude.{IfSome, IfOk, count_by, ◌==◌}
 use Rattle.std.proofs.lemmas.List.Sums.{sum_by-cons}
 use Rattle.rtm_io.specs.Input.{IsInFault, IsTooLong, line_at}
 use Rattle.rtm_io.specs.declared.input.InFault.{InFault}
-use Rattle.rtm_io.specs.declared.input.InFault.TheVariants.{TooLong}
+use Rattle.rtm_io.specs.declared.input.InFault.TheVariants.{Memory, TooLong}
 use Rattle.rtm_cards.specs.Limits.{most_bytes}
 use Rattle.rtm_cards.specs.Lines.{number_at}
 use Rattle.rtm_deck_items.specs.declared.why.Why.TheVariants as whys
@@ -96,3 +96,7 @@ pub of_fault : {E : Type 0} (request : Request) (left new : Option (List ℕ)) (
     → IfOk r (λ a. IsDue request left a told)
 of_fault request left new told before now line fault r reads e h m is =
     of_too_long request left new told line r reads (subst (λ (f : InFault). IsInFault most_bytes left new before now f) e h).0 m is
+
+-- want of memory counts no fault
+pub counts_none : (left new : Option (List ℕ)) (before now : ℕ) (fault : InFault) → fault ≡ Memory → IsInFault most_bytes left new before now fault → now ≡ before
+counts_none left new before now fault e h = subst (λ (f : InFault). IsInFault most_bytes left new before now f) e h
