@@ -5,16 +5,20 @@ from __future__ import annotations
 import argparse
 import os
 import sys
+import traceback
 from typing import Any, Callable, List, NoReturn, Optional
 
 from . import VERSION
+from .deck import number_in
 from .diff import diff
 from .doctor import doctor
-from .failures import CANNOT_WRITE, Failure, WRONG_WORDS
+from .failures import (CANNOT_READ, CANNOT_WRITE, Failure, INTERRUPTED, NO_MEMORY, OWN_FAULT, WRONG_WORDS, tell)
+from .files import give_up_output, reason, write
 from .lint import lint
 from .moments import read_moments
 from .play import play
 from .sweep import sweep
+from .trace import NotUnderstood
 from .view import view
 from .why import why
 from .whynot import whynot
@@ -23,15 +27,18 @@ STATUSES = """exit statuses:
   0   done; with view, why and diff: the trace is legal
   1   with sweep --require: the routine isn't entered at some moment; with diff: the traces part;
       with whynot: no change makes a retry
-  3   rtmrun isn't built, or can't be run
-  12  rtmrun had no memory for the run
+  3   rtmrun isn't built, can't be run, or gave no answer of rtmrun
   8   the deck is refused
   9   the trace has a bad line; what stands before it is drawn or told
   10  the trace isn't legal; what stands before the first wrong entry is drawn or told
   11  the trace is legal and ends otherwise; it is drawn or told
+  12  there was no memory for the run, or for what is made of it
   16  a file can't be read
   17  a file can't be written, or play's port can't be had
   20  the words are wrong
+  70  a fault of rtm itself; with RTM_TRACEBACK=1 it says where
+  130 ended by Ctrl-C
+Where the status isn't 0, 1 or 130 one line on standard error says why; lint names the faults on standard output.
 """
 RAW = argparse.RawDescriptionHelpFormatter
 VIEW_EXAMPLES = """\
@@ -66,20 +73,23 @@ class Parser(argparse.ArgumentParser):
     """argparse ends with 2; here wrong words end as those of rtmrun do."""
 
     def error(self, message: str) -> NoReturn:
-        self.print_usage(sys.stderr)
-        raise Failure(message, WRONG_WORDS)
+        raise Failure("%s; %s --help says which words there are" % (message, self.prog), WRONG_WORDS)
+
+    def _print_message(self, message: str, file: Any = None) -> None:
+        """Help and version go to standard output, which may be closed or full."""
+        write(None, message)
 
 
 def entry_number(text: str) -> int:
-    number = int(text)
-    if number < 0:
-        raise ValueError(text)
+    number = number_in(text)
+    if number is None:
+        raise argparse.ArgumentTypeError("'%s' isn't a number" % text)
     return number
 
 
 def positive(text: str) -> int:
     if entry_number(text) < 1:
-        raise ValueError(text)
+        raise argparse.ArgumentTypeError("'%s' isn't 1 or more" % text)
     return int(text)
 
 
@@ -159,7 +169,7 @@ def add_sweep(words: Any) -> argparse.ArgumentParser:
     kinds.add_argument("--json", action="store_true", help="the moments as JSON")
     kinds.add_argument("--plan", action="store_true", help="write one job a line, for GNU parallel or a batch queue")
     kinds.add_argument("--gather", action="store_true", help="make the table of what the jobs of a plan printed")
-    kinds.add_argument("--at", type=read_moments, metavar="LIST", help="run these moments, as a job of a plan does: "
+    kinds.add_argument("--at", type=moments, metavar="LIST", help="run these moments, as a job of a plan does: "
                        "3 or 0-49,60")
     parser.add_argument("--each", type=positive, default=1, metavar="N", help="with --plan: so many moments a job")
     add_output(parser)
@@ -213,8 +223,15 @@ def add_lint(words: Any) -> argparse.ArgumentParser:
 
 def port_number(text: str) -> int:
     if entry_number(text) > 65535:
-        raise ValueError(text)
+        raise argparse.ArgumentTypeError("'%s' is no port: 65535 is the last" % text)
     return int(text)
+
+
+def moments(text: str) -> List[int]:
+    try:
+        return read_moments(text)
+    except ValueError:
+        raise argparse.ArgumentTypeError("'%s' is no list of moments up to 100,000, as 3 or 0-49,60" % text) from None
 
 
 def add_play(words: Any) -> argparse.ArgumentParser:
@@ -243,11 +260,23 @@ def main(words: Optional[List[str]] = None) -> int:
         arguments = make_parser().parse_args(words)
         return int(arguments.run(arguments))
     except Failure as failure:
-        print("rtm: %s" % failure, file=sys.stderr)
+        tell(str(failure))
         return failure.status
-    except BrokenPipeError:
-        # Whoever read the output has gone; nothing more can be written, not even at the end.
-        os.dup2(os.open(os.devnull, os.O_WRONLY), sys.stdout.fileno())
+    except NotUnderstood as line:
+        tell("rtmrun wrote this line, and rtm doesn't know it: %s" % line)
+        return CANNOT_READ
+    except OSError as trouble:
+        # Files are read and written where Failure is raised, so this is standard output.
+        give_up_output()
+        tell("standard output can't be written: %s" % reason(trouble))
         return CANNOT_WRITE
+    except MemoryError:
+        tell("there is no memory for this")
+        return NO_MEMORY
     except KeyboardInterrupt:
-        return 130
+        return INTERRUPTED
+    except Exception as trouble:  # nobody is shown a traceback who didn't ask for it
+        if os.environ.get("RTM_TRACEBACK"):
+            traceback.print_exc()
+        tell("this is a fault of rtm: %s: %s" % (type(trouble).__name__, trouble))
+        return OWN_FAULT

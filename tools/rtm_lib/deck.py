@@ -16,10 +16,20 @@ WITHOUT_OPERANDS = frozenset(["NOP", "RETURN", "PROG", "PEND", "OPER", "END"])
 DEFAULT_LIMIT = 20000
 
 
+def number_in(text: str) -> Optional[int]:
+    """The number that digits spell, or None. Only the ten digits are; Python takes others, and fails at very many."""
+    return int(text) if re.fullmatch("[0-9]{1,30}", text) else None
+
+
 def lines_of(text: bytes) -> List[str]:
     """The lines of a deck or a trace, each without its line feed."""
     lines = text.decode("latin-1").split("\n")
     return lines[:-1] if not lines[-1] else lines
+
+
+def kept_lines(text: bytes) -> List[bytes]:
+    """The same lines, each with its line feed."""
+    return re.findall(b"[^\n]*\n|[^\n]+", text)
 
 
 @dataclass(frozen=True)
@@ -64,7 +74,7 @@ class Card:
     def return_code(self) -> Optional[int]:
         """What a SETRP or a RET15 asks for by a return code, if it gives one."""
         text = {"SETRP": self.value("RC"), "RET15": self.positional(0)}.get(self.operation, "")
-        return int(text) if text.isdigit() else None
+        return number_in(text)
 
 
 @dataclass
@@ -113,7 +123,8 @@ class Deck:
     def limit(self) -> int:
         """How many entries a run has at most."""
         given = self.region.value("LIMIT") if self.region is not None else ""
-        return int(given) if given.isdigit() else DEFAULT_LIMIT
+        number = number_in(given)
+        return DEFAULT_LIMIT if number is None else number
 
     @property
     def sdwa(self) -> bool:

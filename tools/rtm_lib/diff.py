@@ -4,14 +4,13 @@ from __future__ import annotations
 
 import argparse
 import json
-import sys
 from typing import Any, Dict, List, Optional, Tuple
 
 from .deck import split_input
-from .failures import Failure, NOT_ENTERED, OK, WRONG_WORDS
+from .failures import Failure, NOT_ENTERED, OK, WRONG_WORDS, tell
 from .files import STDIN, read_file, write
 from .history import History, Line
-from .judged import Judged, judge
+from .judged import Judged, judge, read_trace_file
 from .parts import many
 from .program import find
 from .reasons import reasons
@@ -30,7 +29,7 @@ def diff(arguments: argparse.Namespace) -> int:
     if behind.strip():
         raise Failure("lines stand behind the END card of %s, and two traces were named" % arguments.deck, WRONG_WORDS)
     rtmrun = find(arguments.rtmrun)
-    both = [judge(rtmrun, deck_text, read_file(name)) for name in (arguments.one, arguments.other)]
+    both = [judge(rtmrun, deck_text, read_trace_file(name)) for name in (arguments.one, arguments.other)]
     told = differences(both[0].history, both[1].history)
     write(arguments.output, json.dumps(told, indent=1) + "\n" if arguments.json else as_text(told))
     return ending(both, told)
@@ -40,8 +39,7 @@ def ending(both: List[Judged], told: Dict[str, Any]) -> int:
     """Says which trace isn't legal; else 0 or 1."""
     for name, judged in zip(NAMES, both):
         if not judged.verdict.is_legal:
-            print("rtm: the %s trace: %s; what stands before is compared" % (name, judged.verdict.line),
-                  file=sys.stderr)
+            tell("the %s trace: %s; what stands before is compared" % (name, judged.verdict.line))
     wrong = [judged.verdict.status for judged in both if not judged.verdict.is_legal]
     return wrong[0] if wrong else OK if told["parts_at"] is None else NOT_ENTERED
 

@@ -13,7 +13,7 @@ from pathlib import Path
 from typing import List, Tuple
 
 from . import VERSION
-from .failures import NO_PROGRAM, OK
+from .failures import NO_PROGRAM, OK, tell
 from .files import write
 from .program import HOW_TO_BUILD, REPOSITORY, Rtmrun, place_of
 
@@ -43,6 +43,8 @@ def doctor(arguments: argparse.Namespace) -> int:
     lines += [("browser", browser()), ("parallel", parallel())]
     write(arguments.output, json.dumps(dict(lines), indent=1) + "\n" if arguments.json else "".join(
         "%-11s %s\n" % line for line in lines))
+    if not works:
+        tell("view can't work here: the lines of doctor say what is missing")
     return OK if works else NO_PROGRAM
 
 
@@ -57,7 +59,11 @@ def asked(rtmrun: Rtmrun) -> Tuple[str, bool]:
 
 def fingerprint(path: Path) -> str:
     """The program has no word for its version; its bytes tell one build from another."""
-    return "sha256 %s, %d bytes" % (hashlib.sha256(path.read_bytes()).hexdigest()[:16], path.stat().st_size)
+    try:
+        text = path.read_bytes()
+    except OSError as trouble:
+        return "they can't be read: %s" % trouble.strerror
+    return "sha256 %s, %d bytes" % (hashlib.sha256(text).hexdigest()[:16], len(text))
 
 
 def first_line_of(words: List[str]) -> str:

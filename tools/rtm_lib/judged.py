@@ -33,10 +33,15 @@ def read_input(deck_name: str, trace_name: Optional[str]) -> Tuple[bytes, bytes]
         return deck_text, behind
     if behind.strip():
         raise Failure("lines stand behind the END card of %s, and a trace was named as well" % deck_name, WRONG_WORDS)
-    trace_text = read_file(trace_name)
-    if not trace_text:
-        raise Failure("%s is empty" % trace_name, CANNOT_READ)
-    return deck_text, trace_text
+    return deck_text, read_trace_file(trace_name)
+
+
+def read_trace_file(name: str) -> bytes:
+    """The bytes of a trace that was named; an empty file isn't one, and asks for none to be made."""
+    text = read_file(name)
+    if not text:
+        raise Failure("%s is empty" % ("standard input" if name == STDIN else name), CANNOT_READ)
+    return text
 
 
 def judge(rtmrun: Rtmrun, deck_text: bytes, trace_text: bytes) -> Judged:

@@ -10,12 +10,12 @@ import json
 from dataclasses import asdict, dataclass
 from typing import Any, Dict, Iterator, List, Tuple
 
-from .deck import Card, Deck, lines_of, read_card, read_deck, split_input
+from .deck import Card, Deck, lines_of, number_in, read_card, read_deck, split_input
 from .failures import DECK_REFUSED, OK
 from .files import STDIN, read_file, write
 from .forms import FORMS, NAMING, form_of, listed, near, trouble
 from .parts import many
-from .program import Rtmrun, find
+from .program import Rtmrun, find, refusal
 
 MOST_FAULTS = 50
 MOST_BYTES_OF_A_CARD = 80
@@ -95,8 +95,10 @@ def faults_of(rtmrun: Rtmrun, text: bytes) -> Iterator[Finding]:
     for _ in range(MOST_FAULTS):
         status, written = rtmrun.ask(["scan"], b"\n".join(raw))
         words = written.decode("latin-1").split()
-        if status != DECK_REFUSED or len(words) != 3:
+        if status == OK and written:
             return
+        if status != DECK_REFUSED or len(words) != 3 or words[2] not in WHYS or not number_in(words[1]):
+            raise refusal(text, status, written)
         number, why = int(words[1]), words[2]
         yield finding(text, number, why, gone)
         if why in ("TooLong", "NoEnd", "NoJobStep") or number > len(raw) or raw[number - 1].startswith(b"*"):

@@ -9,7 +9,7 @@ from concurrent.futures import ThreadPoolExecutor
 from dataclasses import asdict, dataclass, field
 from typing import Any, Callable, Dict, Iterator, List, Optional, Sequence, Tuple
 
-from .deck import Deck, is_end, read_card, read_deck, split_input
+from .deck import Deck, is_end, kept_lines, number_in, read_card, read_deck, split_input
 from .failures import Failure, WRONG_WORDS
 from .history import Box, History, follow
 from .program import Rtmrun
@@ -17,6 +17,8 @@ from .trace import Entry, read_trace
 
 MOST_COMMANDS = 64
 MOST_MOMENTS = 2000
+# The last one that a card can name.
+LAST_MOMENT = 100000
 NEVER = "NEVER"
 
 
@@ -58,6 +60,9 @@ class Moment:
     @staticmethod
     def of_json(values: Dict[str, Any]) -> "Moment":
         moment = Moment(**values)
+        if type(moment.at) is not int or any(type(one) not in (int, type(None))
+                                             for one in (moment.arrived, moment.landed)):
+            raise ValueError("a moment is a number")
         moment.entered = [Entered(**one) for one in values["entered"]]
         return moment
 
@@ -90,7 +95,7 @@ def prepare(text: bytes, wanted: Optional[str]) -> Swept:
     deck = read_deck(deck_text)
     command = wanted_command(deck, wanted)
     unit = command.split(" ")[1].split(",")[0]
-    lines = deck_text.splitlines(keepends=True)
+    lines = kept_lines(deck_text)
     place, number = place_of_command(deck, unit, wanted is None)
     if number is not None:
         said.append("the deck's command on card %d is the one that moves" % (place + 1))
@@ -108,7 +113,8 @@ def wanted_command(deck: Deck, wanted: Optional[str]) -> str:
             return without_at(deck.commands[0].operands)
         return "CANCEL " + deck.job_step
     card = read_card(1, " " + wanted.strip())
-    if card is None or card.name or card.operation != "CANCEL" or not card.positional(0):
+    is_printable = all(" " <= letter <= "~" for letter in wanted.strip())
+    if card is None or not is_printable or card.name or card.operation != "CANCEL" or not card.positional(0):
         raise Failure("the command must be a CANCEL card, as \"CANCEL JOB\" or \"CANCEL JOB,DUMP=YES\"", WRONG_WORDS)
     return without_at(card.operands)
 
@@ -186,9 +192,10 @@ def read_moments(text: str) -> List[int]:
     moments: List[int] = []
     for run in text.split(","):
         first, dash, last = run.partition("-")
-        if not (first.isdigit() and (last.isdigit() or not dash)):
+        begins, ends = number_in(first), number_in(last if dash else first)
+        if begins is None or ends is None or not begins <= ends <= LAST_MOMENT:
             raise ValueError(text)
-        moments += range(int(first), int(last or first) + 1)
+        moments += range(begins, ends + 1)
     return moments
 
 

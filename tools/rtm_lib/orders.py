@@ -13,7 +13,7 @@ from dataclasses import dataclass, field
 from itertools import accumulate
 from typing import Any, Callable, Dict, Iterator, List, Optional, Sequence, Tuple
 
-from .deck import Deck, read_deck, split_input
+from .deck import Deck, kept_lines, read_deck, split_input
 from .history import follow
 from .moments import Moment, prepare, read_moment, row_key, without_at
 from .program import Rtmrun
@@ -68,7 +68,7 @@ class Walk:
     def __init__(self, rtmrun: Rtmrun, text: bytes) -> None:
         self.rtmrun = rtmrun
         self.deck: Deck = read_deck(text)
-        self.lines = text.splitlines(keepends=True)
+        self.lines = kept_lines(text)
         self.commands = [without_at(card.operands) for card in self.deck.commands]
         self.targets = [card.positional(0) for card in self.deck.commands]
 

@@ -11,6 +11,7 @@ import json
 import re
 import secrets
 import socket
+import sys
 import threading
 import traceback
 import webbrowser
@@ -21,7 +22,7 @@ from typing import Any, Dict, Optional, Tuple
 
 from .desk import Busy, Desk, Exists, strings
 from .failures import CANNOT_WRITE, Failure, OK
-from .files import read_file
+from .files import STDIN, read_file
 from .program import find
 from .svg import minified
 
@@ -41,8 +42,11 @@ PICTURE_POLICY = ("default-src 'none'; style-src 'unsafe-inline'; script-src 'un
 def play(arguments: argparse.Namespace) -> int:
     """Serves until Ctrl-C."""
     rtmrun = find(arguments.rtmrun)
-    desk = Desk(rtmrun, arguments.deck, read_file(arguments.deck)) if arguments.deck else Desk(
-        rtmrun, None, (HERE.parents[1] / FIRST_DECK).read_bytes())
+    if sys.stdout is None:
+        raise Failure("standard output is closed, so nobody would be told the address of the page", CANNOT_WRITE)
+    text = read_file(str(HERE.parents[1] / FIRST_DECK) if arguments.deck is None else arguments.deck)
+    # A deck from standard input has no file to be saved in.
+    desk = Desk(rtmrun, None if arguments.deck == STDIN else arguments.deck, text)
     try:
         server = Server(arguments.port, desk)
     except OSError as trouble:
@@ -155,7 +159,7 @@ class Handler(BaseHTTPRequestHandler):
     def body(self) -> Dict[str, Any]:
         """What was posted: an object of JSON, of bounded length."""
         length = self.headers.get("Content-Length") or ""
-        if self.headers.get("Transfer-Encoding") or not length.isdigit():
+        if self.headers.get("Transfer-Encoding") or not re.fullmatch("[0-9]{1,18}", length):
             raise Refused(411, "a body has to say its length")
         if int(length) > MOST_BODY:
             raise Refused(413, "a body has at most %d bytes" % MOST_BODY)
@@ -179,7 +183,7 @@ class Handler(BaseHTTPRequestHandler):
             return "text/html", PAGE_POLICY % nonce, page_of(self.server.desk, nonce)
         if word == "example":
             return "application/json", "", json.dumps(self.server.desk.example(name))
-        if word == "picture" and name.isdigit():
+        if word == "picture" and re.fullmatch("[0-9]{1,18}", name):
             markup = self.server.desk.picture(int(name))
             if markup is not None:
                 return "text/html", PICTURE_POLICY, framed(markup)

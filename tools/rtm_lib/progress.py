@@ -12,7 +12,7 @@ STEP = 50
 
 def progress(number: Optional[int]) -> Callable[[int], None]:
     """What to call after each run, where so many are to come; None where nobody knows yet."""
-    if not sys.stderr.isatty() or (number is not None and number < PATIENCE):
+    if sys.stderr is None or not sys.stderr.isatty() or (number is not None and number < PATIENCE):
         return lambda done: None
 
     def tell(done: int) -> None:

@@ -8,6 +8,7 @@ from __future__ import annotations
 
 from typing import Callable, Dict, List, Optional
 
+from .deck import number_in
 from .history import Box, ErrorThread, History, Line, Registration
 from .sentences import start_large
 
@@ -231,7 +232,7 @@ def of_exec(history: History, line: Line) -> List[str]:
 
 
 def same_number(one: str, other: str) -> bool:
-    return one.isdigit() and other.isdigit() and int(one) == int(other)
+    return number_in(one) is not None and number_in(one) == number_in(other)
 
 
 # Ends

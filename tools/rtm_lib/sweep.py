@@ -10,7 +10,7 @@ from dataclasses import dataclass
 from pathlib import Path
 from typing import Any, Dict, List, Optional, Sequence, Tuple
 
-from .failures import CANNOT_READ, Failure, NOT_ENTERED, OK, WRONG_WORDS
+from .failures import CANNOT_READ, Failure, NOT_ENTERED, OK, WRONG_WORDS, tell
 from .files import STDIN, read_file, write
 from .moments import (NEVER, Moment, Swept, check_routine, is_entered, listed_moments, moments_of, prepare, row_key,
                       run_moments)
@@ -130,7 +130,7 @@ def plan(arguments: argparse.Namespace, name: str, swept: Swept, moments: Sequen
         words += ["--rtmrun", arguments.rtmrun]
     job = " ".join(shlex.quote(word) for word in words)
     for one in said:
-        print("rtm: %s: %s" % (name, one), file=sys.stderr)
+        tell("%s: %s" % (name, one))
     return "".join("%s --at %s\n" % (job, listed_moments(moments[place:place + arguments.each]))
                    for place in range(0, len(moments), arguments.each))
 
@@ -148,7 +148,7 @@ def gathered(text: bytes) -> List[Sweep]:
         lines = [json.loads(line) for line in text.decode("utf-8").splitlines() if line.strip()]
         kinds = sorted({(line["deck"], line["command"], line["unit"], tuple(line["said"])) for line in lines})
         moments = {(line["deck"], line["moment"]["at"]): Moment.of_json(line["moment"]) for line in lines}
-    except (ValueError, KeyError, TypeError):
+    except (ValueError, KeyError, TypeError, AttributeError, RecursionError):
         raise Failure("--gather reads the lines that the jobs of a plan print, and this isn't one",
                       CANNOT_READ) from None
     if not kinds or len({kind[0] for kind in kinds}) != len(kinds):

@@ -152,7 +152,7 @@ def read_entry(line: str) -> Entry:
     try:
         rest = tuple(words[3:])
         return Entry(int(words[0]), words[1], words[2], rest, **READERS[words[2]](rest))  # type: ignore[arg-type]
-    except (IndexError, KeyError, ValueError):
+    except (IndexError, KeyError, TypeError, ValueError):
         raise NotUnderstood(line) from None
 
 

@@ -3,13 +3,12 @@
 from __future__ import annotations
 
 import argparse
-import sys
 from pathlib import Path
 from typing import List, Optional, Tuple
 
 from .deck import Deck
 from .drawing import draw
-from .failures import Failure, WRONG_WORDS
+from .failures import Failure, WRONG_WORDS, tell
 from .files import STDIN, write
 from .folds import folded_rows
 from .history import History
@@ -35,7 +34,7 @@ def view(arguments: argparse.Namespace) -> int:
     picture, strip = make_picture(arguments, judged)
     write(arguments.output, svg(picture) if arguments.svg else page(picture, strip))
     if not judged.verdict.is_legal:
-        print("rtm: %s" % judged.verdict.line, file=sys.stderr)
+        tell(judged.verdict.line)
     return judged.verdict.status
 
 

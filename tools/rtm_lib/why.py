@@ -4,10 +4,9 @@ from __future__ import annotations
 
 import argparse
 import json
-import sys
 from typing import Any, Dict, List
 
-from .failures import Failure, WRONG_WORDS
+from .failures import Failure, WRONG_WORDS, tell
 from .files import write
 from .history import History, Line, Registration
 from .judged import Judged, judge, read_input
@@ -28,7 +27,7 @@ def why(arguments: argparse.Namespace) -> int:
     line = entry_line(judged, arguments.entry)
     write(arguments.output, as_json(judged.history, line) if arguments.json else as_text(judged.history, line))
     if not judged.verdict.is_legal:
-        print("rtm: %s" % judged.verdict.line, file=sys.stderr)
+        tell(judged.verdict.line)
     return judged.verdict.status
 
 

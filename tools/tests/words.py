@@ -9,6 +9,7 @@ import random
 import traceback
 from pathlib import Path
 from typing import Iterator, List, Sequence, Tuple
+from unittest import mock
 
 from rtm_lib.command import main as companion
 from rtm_lib.moments import prepare
@@ -23,7 +24,8 @@ def called(words: Sequence[str]) -> Tuple[int, str]:
     """Calls a word: its status, and what it wrote to standard error, or where it crashed."""
     errors = io.StringIO()
     try:
-        with contextlib.redirect_stderr(errors):
+        # A fault of rtm itself, status 70, comes with its place.
+        with contextlib.redirect_stderr(errors), mock.patch.dict(os.environ, {"RTM_TRACEBACK": "1"}):
             return companion(list(words)), errors.getvalue()
     except BaseException:  # a crash of any kind is what is looked for
         return -1, traceback.format_exc()
