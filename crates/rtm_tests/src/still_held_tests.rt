@@ -56,7 +56,7 @@ fn counts_of(alloc: Global, units: usize) -> Result<Arc<Counts>, AllocError> {
     for _ in 0..units {
         counts.push(AtomicU64::new(0))?;
     }
-    Arc::new(alloc, counts)
+    Ok(Arc::new(alloc, counts)?)
 }
 
 fn still_held(alloc: Global, class: Res, counts: &Arc<Counts>) -> Result<StillHeld, AllocError>

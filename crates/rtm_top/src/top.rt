@@ -188,7 +188,7 @@ pub fn plain_words<S: Source, K: Sink>(
     ensures sink_later { K.faults out.old ≤ K.faults out.new }
 
     // What the status says of what was read, written and told, and that it is the one that is due where no count of
-    // faults rose and memory isn't refused.
+    // faults rose and the status isn't Memory.
     ensures answer { AnswersWords words.now (record {
       left = S.left src.old;
       source_before = S.faults src.old;
