@@ -66,7 +66,7 @@ impl Manager for Watched {
     }
 }
 
-fn watched(
+fn watching(
     alloc: Global,
     class: Res,
     room: Room,
@@ -96,16 +96,16 @@ fn called(
     let mut managers: Vec<Box<dyn Manager + Send>> = Vec::new(alloc);
     managers.push(Box::new(
         alloc,
-        watched(alloc, Res::Enq, Room::AsAsked, drops)?,
+        watching(alloc, Res::Enq, Room::AsAsked, drops)?,
     )?)?;
     managers.push(Box::new(
         alloc,
-        watched(alloc, Res::Stor, Room::AsAsked, drops)?,
+        watching(alloc, Res::Stor, Room::AsAsked, drops)?,
     )?)?;
-    managers.push(Box::new(alloc, watched(alloc, Res::Dsn, room, drops)?)?)?;
+    managers.push(Box::new(alloc, watching(alloc, Res::Dsn, room, drops)?)?)?;
     managers.push(Box::new(
         alloc,
-        watched(alloc, Res::Timr, Room::AsAsked, drops)?,
+        watching(alloc, Res::Timr, Room::AsAsked, drops)?,
     )?)?;
     Ok(plain_words(alloc, &words, src, out, managers))
 }

@@ -84,7 +84,7 @@ fn read_answer<S: Source, M: Manager>(
         IsDue request (S.left src.old) answer (told_to M.class M.released result.1.items)) }
     ensures err { IfErr result.0
         (IsUnmade request (S.left src.old) (told_to M.class M.released result.1.items)
-            (S.faults src.old) (S.faults src.new)) }
+        (S.faults src.old) (S.faults src.new)) }
     ensures counted { OnOk result.0 (S.faults src.new ≡ S.faults src.old) }
     ensures front { TakesAtMost (most_bytes + 1) (S.left src.old) (S.left src.new) }
     ensures later { S.faults src.old ≤ S.faults src.new }
@@ -120,7 +120,7 @@ fn make_answer<S: Source, M: Manager>(
         IsDue request (S.left src.old) answer (told_to M.class M.released result.1.items)) }
     ensures err { IfErr result.0
         (IsUnmade request (S.left src.old) (told_to M.class M.released result.1.items)
-            (S.faults src.old) (S.faults src.new)) }
+        (S.faults src.old) (S.faults src.new)) }
     ensures counted { OnOk result.0 (S.faults src.new ≡ S.faults src.old) }
     ensures untouched { (tasks : ℕ) → request ≡ Request.Load tasks → src.new ≡ src.old }
     ensures front { TakesAtMost (most_bytes + 1) (S.left src.old) (S.left src.new) }
@@ -206,8 +206,9 @@ pub fn plain_words<S: Source, K: Sink>(
             managers,
         },
         Some(request) => {
-            let (status, managers) =
-                done::<S, K, Box<dyn Manager + Send>>(alloc, request, src, out, managers);
+            let (status, managers) = done::<S, K, Box<dyn Manager + Send>>(
+                alloc, request, src, out, managers,
+            );
             Outcome { status, managers }
         }
     }

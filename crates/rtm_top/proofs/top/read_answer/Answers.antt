@@ -14,4 +14,4 @@ returns-in-Err-TooLong-clause-ok g c =
 pub returns-in-Err-Memory-clause-err : goal.returns-in-Err-Memory-clause-err
 returns-in-Err-Memory-clause-err g c =
     unmade_by_memory c.args.request _ _ _ _ c.requires.untold
-        (counts_none _ _ _ _ c.in-Err-Memory.field-0 c.in-Err-Memory.field-0-is c.in-Err-Memory.ensures.fault)
+    (counts_none _ _ _ _ c.in-Err-Memory.field-0 c.in-Err-Memory.field-0-is c.in-Err-Memory.ensures.fault)
