@@ -94,19 +94,10 @@ fn called(
 ) -> Result<Outcome, AllocError> {
     let words = words(alloc, list)?;
     let mut managers: Vec<Box<dyn Manager + Send>> = Vec::new(alloc);
-    managers.push(Box::new(
-        alloc,
-        watching(alloc, Res::Enq, Room::AsAsked, drops)?,
-    )?)?;
-    managers.push(Box::new(
-        alloc,
-        watching(alloc, Res::Stor, Room::AsAsked, drops)?,
-    )?)?;
+    managers.push(Box::new(alloc, watching(alloc, Res::Enq, Room::AsAsked, drops)?)?)?;
+    managers.push(Box::new(alloc, watching(alloc, Res::Stor, Room::AsAsked, drops)?)?)?;
     managers.push(Box::new(alloc, watching(alloc, Res::Dsn, room, drops)?)?)?;
-    managers.push(Box::new(
-        alloc,
-        watching(alloc, Res::Timr, Room::AsAsked, drops)?,
-    )?)?;
+    managers.push(Box::new(alloc, watching(alloc, Res::Timr, Room::AsAsked, drops)?)?)?;
     Ok(plain_words(alloc, &words, src, out, managers))
 }
 

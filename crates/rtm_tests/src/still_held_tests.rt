@@ -85,7 +85,13 @@ fn what_each_unit_left_behind(rt: HostRuntime) -> Result<(), Fail> {
     let deck = endings::ROWS[1].deck;
     let mut src = MemSource::new(Vec::from_slice(alloc, deck.as_bytes())?, Vec::new(alloc));
     let mut out = MemSink::new(alloc, 10_000, Vec::new(alloc))?;
-    let outcome = plain_words(alloc, &words(alloc, &["seq"])?, &mut src, &mut out, managers);
+    let outcome = plain_words(
+        alloc,
+        &words(alloc, &["seq"])?,
+        &mut src,
+        &mut out,
+        managers,
+    );
     assert_eq!(rt; outcome.status, Status::Fine);
 
     // JOB, READ, CALC, PRINT, and the master.
