@@ -270,3 +270,70 @@ fn managers_are_told_of_the_releases_of_a_run(rt: HostRuntime) -> Result<(), Fai
     }
     Ok(())
 }
+
+// Writes down what it is told: of each release two digits, the unit's place from 1 on and the resource's number.
+#[derive(Drop)]
+struct Writing {
+    manager: MemManager,
+    told: Arc<AtomicU64>,
+}
+
+impl Manager for Writing {
+    ghost class = { λ a. a.manager.class };
+
+    ghost released = { λ a. a.manager.released };
+
+    ghost spare = { λ a. a.manager.spare };
+
+    fn reserve(&mut self, n: u64) -> Result<(), NoMemory> {
+        self.manager.reserve(n)
+    }
+
+    fn release(&mut self, unit: u16, id: u32) {
+        self.manager.release(unit, id);
+        let before = self.told.load(Ordering::SeqCst).wrapping_mul(100);
+        let pair = u64::from(unit)
+            .wrapping_add(1)
+            .wrapping_mul(10)
+            .wrapping_add(u64::from(id));
+        self.told.store(before.wrapping_add(pair), Ordering::SeqCst);
+    }
+
+    fn count(&self) -> u64 {
+        self.manager.count()
+    }
+}
+
+fn noting(alloc: Global, class: Res, told: &Arc<AtomicU64>) -> Result<Writing, AllocError>
+    ensures { IfOk result (λ a. a.manager ≡ manager_of class) }
+{
+    let told = told.clone()?;
+    let manager = MemManager::new(alloc, class);
+    Ok(Writing { manager, told })
+}
+
+// What memory end releases of MEMTERM, each class in the order of the trace: A, which is unit 1, had ENQ 2 twice, and JOB
+// ENQ 1; A had STOR 5, and JOB DSN 7.
+#[test]
+fn managers_are_told_in_the_order_of_the_trace(rt: HostRuntime) -> Result<(), Fail> {
+    let alloc = rt.alloc();
+    let enq = Arc::new(alloc, AtomicU64::new(0))?;
+    let stor = Arc::new(alloc, AtomicU64::new(0))?;
+    let dsn = Arc::new(alloc, AtomicU64::new(0))?;
+    let timr = Arc::new(alloc, AtomicU64::new(0))?;
+    let mut managers: Vec<Box<dyn Manager + Send>> = Vec::new(alloc);
+    managers.push(Box::new(alloc, noting(alloc, Res::Enq, &enq)?)?)?;
+    managers.push(Box::new(alloc, noting(alloc, Res::Stor, &stor)?)?)?;
+    managers.push(Box::new(alloc, noting(alloc, Res::Dsn, &dsn)?)?)?;
+    managers.push(Box::new(alloc, noting(alloc, Res::Timr, &timr)?)?)?;
+    let mut src = MemSource::new(Vec::from_slice(alloc, MEMTERM.as_bytes())?, Vec::new(alloc));
+    let mut out = MemSink::new(alloc, 10_000, Vec::new(alloc))?;
+    let words = words(alloc, &["seq"])?;
+    let outcome = plain_words(alloc, &words, &mut src, &mut out, managers);
+    assert_eq!(rt; outcome.status, Status::Fine);
+    assert_eq!(rt; enq.load(Ordering::SeqCst), 222_211);
+    assert_eq!(rt; stor.load(Ordering::SeqCst), 25);
+    assert_eq!(rt; dsn.load(Ordering::SeqCst), 17);
+    assert_eq!(rt; timr.load(Ordering::SeqCst), 0);
+    Ok(())
+}
