@@ -20,7 +20,7 @@ legal_from d w n (e ∷ es) below legal =
     omega (arith, rest)
 
 -- a legal history is no longer than the limit
-within_limit : (d : DeckView) (history : List Entry) → Legal d history → length history ≤ d.limit
+pub within_limit : (d : DeckView) (history : List Entry) → Legal d history → length history ≤ d.limit
 unfolding Legal
 within_limit d history legal =
     let all : 0 + length history ≤ d.limit = legal_from d (start d) 0 history (omega arith) legal in

@@ -1,3 +1,4 @@
+pub mod Histories
 pub mod Region
 pub use Rattle.rtm_model.specs.Legal
 pub use Rattle.rtm_model.specs.Turns

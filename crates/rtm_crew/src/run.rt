@@ -1,29 +1,22 @@
 //! A run on one thread whose managers are told of its releases.
 
-ghost use Rattle.std.specs.Prelude.{◌≡◌, IfErr, IfOk, OnOk, Some, []};
+ghost use Rattle.std.specs.Prelude.{◌≡◌, IfErr, IfOk, Some, []};
 ghost use Rattle.rtm_board.specs.All.{AreAll};
-ghost use Rattle.rtm_desk.specs.Told.{HasRoom, told_by, told_to};
+ghost use Rattle.rtm_desk.specs.Told.{told_by, told_to};
 ghost use Rattle.rtm_model.specs.Legal.{end_of};
 ghost use Rattle.rtm_model.specs.Turns.{seq};
 
+use crate::ready::{NoRun, make_ready};
 use crate::region::Region;
-use rtm_board::{Notes, all_notes};
-use rtm_codes::NoMemory;
+use rtm_board::Notes;
 use rtm_deck_items::Deck;
-use rtm_desk::{Desks, Manager};
+use rtm_desk::Manager;
 use rtm_model::End;
-use rtm_system::System;
 use std::alloc::Global;
 
-/// There was no memory for a run: no entry was made. The managers come back, in the order of the classes.
-#[derive(Drop)]
-pub struct NoRun<M: Manager> {
-    pub managers: Vec<M>,
-}
-
-/// Runs a region from its start to its end, in turns (this profile). The notes are those
-/// of all commands of its deck, and are back in the set at the end. Each manager is told of a release of its class as
-/// it is made. Answers how the history ends.
+/// Runs a region from its start to its end, in turns (this profile). The notes are those of all commands of its deck,
+/// and are back in the set at the end. Each manager is told of a release of its class as it is made. Answers how the
+/// history ends.
 pub fn seq_run<M: Manager>(region: &mut Region<M>, notes: &mut Notes) -> End
     requires start { region.old.system.trace ≡ [] }
     requires notes { AreAll region.old.system.deck notes.old }
@@ -40,31 +33,6 @@ pub fn seq_run<M: Manager>(region: &mut Region<M>, notes: &mut Notes) -> End
             }
             Err(end) => return end,
         }
-    }
-}
-
-// Takes all the memory of a run: of the system, of the notes of all commands, and of each manager.
-fn make_ready<M: Manager>(
-    alloc: Global,
-    deck: Deck,
-    desks: &mut Desks<M>,
-) -> Result<(System, Notes), NoMemory>
-    ensures deck { IfOk result (λ ready. ready.0.deck ≡ deck) }
-    ensures start { IfOk result (λ ready. ready.0.trace ≡ []) }
-    ensures notes { IfOk result (λ ready. AreAll deck ready.1) }
-    ensures room { OnOk result (HasRoom deck.limit desks.new) }
-    ensures told { desks.new.told ≡ desks.old.told }
-{
-    let most = u64::from(deck.entry_limit());
-    let Ok(notes) = all_notes(alloc, &deck) else {
-        return Err(NoMemory);
-    };
-    let Ok(system) = System::new(alloc, deck) else {
-        return Err(NoMemory);
-    };
-    match desks.reserve_all(most) {
-        Ok(()) => Ok((system, notes)),
-        Err(NoMemory) => Err(NoMemory),
     }
 }
 
@@ -85,17 +53,12 @@ pub fn run_with<M: Manager>(
     ensures refused { IfErr result (λ no_run.
         told_to M.class M.released no_run.managers.items ≡ told_by []) }
 {
-    let mut desks = Desks::<M>::over(managers);
-    match make_ready::<M>(alloc, deck, &mut desks) {
-        Ok((system, mut notes)) => {
-            let mut region = Region::<M>::make(system, desks);
+    match make_ready::<M>(alloc, deck, managers) {
+        Ok((mut region, mut notes)) => {
             let end = seq_run::<M>(&mut region, &mut notes);
             region.managers_are_told();
             Ok((region, end))
         }
-        Err(NoMemory) => {
-            let managers = desks.into_managers();
-            Err(NoRun { managers })
-        }
+        Err(no_run) => Err(no_run),
     }
 }

@@ -1,8 +1,8 @@
 //! A run on threads.
 
-ghost use Rattle.std.specs.Prelude.{◌≡◌, IfErr, IfOk, OnOk, Some, []};
-ghost use Rattle.rtm_board.specs.All.{AreAll};
-ghost use Rattle.rtm_desk.specs.Told.{HasRoom, told_by, told_to};
+ghost use Rattle.std.specs.Prelude.{◌≡◌, IfErr, IfOk, Some, []};
+ghost use Rattle.rtm_crew.specs.Histories.{in_any_order};
+ghost use Rattle.rtm_desk.specs.Told.{told_by, told_to};
 ghost use Rattle.rtm_model.specs.Legal.{Legal, end_of};
 
 use crate::attending::{Refused, UNITS, attend};
@@ -11,44 +11,16 @@ use crate::gate::Gate;
 use crate::running::Running;
 use crate::starts::{EachStarts, Starts};
 use crate::worker::{RegionLock, work};
-use rtm_board::{Notes, all_notes};
-use rtm_codes::NoMemory;
-use rtm_crew::{NoRun, Region};
+use rtm_crew::{NoRun, Region, Runner, make_ready};
 use rtm_deck_items::Deck;
-use rtm_desk::{Desks, Manager};
+use rtm_desk::Manager;
 use rtm_lock::Lock;
 use rtm_model::End;
-use rtm_system::System;
 use std::alloc::Global;
 use std::snapshot::Snapshot;
 use std::sync::Wait;
 use std::thread;
 use std::thread::Threads;
-
-// Takes all the memory of a run but the lock's: of the system, of the notes of all commands, and of each manager.
-fn make_ready<M: Manager>(
-    alloc: Global,
-    deck: Deck,
-    desks: &mut Desks<M>,
-) -> Result<(System, Notes), NoMemory>
-    ensures deck { IfOk result (λ ready. ready.0.deck ≡ deck) }
-    ensures start { IfOk result (λ ready. ready.0.trace ≡ []) }
-    ensures notes { IfOk result (λ ready. AreAll deck ready.1) }
-    ensures room { OnOk result (HasRoom deck.limit desks.new) }
-    ensures told { desks.new.told ≡ desks.old.told }
-{
-    let most = u64::from(deck.entry_limit());
-    let Ok(notes) = all_notes(alloc, &deck) else {
-        return Err(NoMemory);
-    };
-    let Ok(system) = System::new(alloc, deck) else {
-        return Err(NoMemory);
-    };
-    match desks.reserve_all(most) {
-        Ok(()) => Ok((system, notes)),
-        Err(NoMemory) => Err(NoMemory),
-    }
-}
 
 // Starts a worker for each unit, does the rest beside them, and waits for them all.
 fn run_workers<M: Manager + Send, G: Gate, S: Starts, R: Threads + Wait + Sync>(
@@ -89,11 +61,9 @@ pub fn drive_by<M: Manager + Send, G: Gate, S: Starts, R: Threads + Wait + Sync>
         told_to M.class M.released no_run.managers.items ≡ told_by []) }
 {
     let units = deck.unit_count();
-    let mut desks = Desks::<M>::over(managers);
-    match make_ready::<M>(alloc, deck, &mut desks) {
-        Ok((system, notes)) => {
-            let deck = Snapshot::of(system.deck());
-            let region = Region::<M>::make(system, desks);
+    match make_ready::<M>(alloc, deck, managers) {
+        Ok((region, notes)) => {
+            let deck = Snapshot::of(region.system().deck());
             match Lock::new(alloc, Running { region, notes }, &deck) {
                 Ok(lock) => {
                     run_workers::<M, G, S, R>(rt, &lock, gate, starts, units);
@@ -113,10 +83,7 @@ pub fn drive_by<M: Manager + Send, G: Gate, S: Starts, R: Threads + Wait + Sync>
                 }
             }
         }
-        Err(NoMemory) => {
-            let managers = desks.into_managers();
-            Err(NoRun { managers })
-        }
+        Err(no_run) => Err(no_run),
     }
 }
 
@@ -141,4 +108,31 @@ pub fn drive<M: Manager + Send, G: Gate, R: Threads + Wait + Sync>(
         told_to M.class M.released no_run.managers.items ≡ told_by []) }
 {
     drive_by::<M, G, EachStarts, R>(rt, alloc, deck, managers, gate, &EachStarts)
+}
+
+/// Runs decks on threads, a worker for each unit: it makes whatever history its threads come to.
+#[derive(Clone, Copy)]
+pub struct OnThreads<'a, G, R> {
+    pub rt: &'a R,
+    pub gate: &'a G,
+}
+
+impl<G: Gate, R: Threads + Wait + Sync> Runner for OnThreads<'_, G, R> {
+    ghost makes = { in_any_order };
+
+    fn run<M: Manager + Send>(
+        &self,
+        alloc: Global,
+        deck: Deck,
+        managers: Vec<M>,
+    ) -> Result<(Region<M>, End), NoRun<M>>
+        requires { told_to M.class M.released managers.items ≡ told_by [] }
+        ensures deck { IfOk result (λ run. run.0.system.deck ≡ deck) }
+        ensures made { IfOk result (λ run. in_any_order deck run.0.system.trace) }
+        ensures end { IfOk result (λ run. end_of deck run.0.system.trace ≡ Some run.1) }
+        ensures refused { IfErr result (λ no_run.
+            told_to M.class M.released no_run.managers.items ≡ told_by []) }
+    {
+        drive::<M, G, R>(self.rt, alloc, deck, managers, self.gate)
+    }
 }

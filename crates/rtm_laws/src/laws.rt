@@ -5,9 +5,8 @@ ghost use Rattle.rtm_deck_items.specs.View.{DeckView};
 ghost use Rattle.rtm_deck_items.specs.WellFormed.{is_well_formed};
 ghost use Rattle.rtm_desk.specs.Told.{Row};
 ghost use Rattle.rtm_model.specs.Legal.{Legal};
-ghost use Rattle.rtm_model.specs.Turns.{seq};
 ghost use Rattle.rtm_model.specs.declared.entry.Entry.{Entry};
-ghost use Rattle.rtm_top_answers.specs.Run.{IsSeqOf};
+ghost use Rattle.rtm_top_answers.specs.Run.{IsRunOf};
 ghost use Rattle.rtm_top_answers.specs.View.{AnswerView};
 ghost use Rattle.rtm_trace_judge.specs.Judged.{IsJudged};
 ghost use Rattle.rtm_laws.specs.Laws.{KeepsTheLaws};
@@ -48,10 +47,11 @@ pub fn every_judged_history_keeps_the_laws(deck: &Deck, entries: &[Entry], end: 
     deck.keeps_its_form();
 }
 
-/// Every history that is written under `seq` keeps the three laws.
+/// Every history that is written under `seq` or `run` keeps the three laws, whichever the runner makes.
 pub fn every_written_run_keeps_the_laws()
-    ensures { (bytes : List ℕ) (answer : AnswerView) (told : List Row)
-        → (written : IsSeqOf bytes answer told) → KeepsTheLaws written.deck (seq written.deck) }
+    ensures { (makes : DeckView → List Entry → Type 0) (bytes : List ℕ) (answer : AnswerView)
+        (told : List Row) → (written : IsRunOf makes bytes answer told)
+        → KeepsTheLaws written.deck written.run.history }
 {
     every_legal_history_keeps_the_laws();
 }

@@ -23,9 +23,10 @@ use Rattle.rtm_trace.proofs.TraceLaws.{one_trace}
 use Rattle.rtm_top.specs.declared.request.Request.{Request}
 use Rattle.rtm_top.specs.declared.request.Request.TheVariants as requests
 use Rattle.rtm_top.specs.Answer.{Call, IsAnswer, IsDue, Says}
-use Rattle.rtm_top.specs.Due.{ByItsJudgement, ByItsTrace, DeckIfFaulty, IsComplete, IsDueOf, IsDueStatus, IsOfItsEnd}
+use Rattle.rtm_top.specs.Due.{ByItsJudgement, ByItsTrace, DeckIfFaulty, IsComplete, IsDueOf, IsDueStatus, IsOfAnEnd, IsOfItsEnd}
 use Rattle.rtm_top_answers.specs.Load.{IsLoadOf}
-use Rattle.rtm_top_answers.specs.Run.{IsSeqAnswer}
+use Rattle.rtm_crew.specs.Histories.{in_any_order, in_turns}
+use Rattle.rtm_top_answers.specs.Run.{IsRunAnswer, IsRunIn}
 use Rattle.rtm_top_answers.specs.Scan.{IsScanAnswer}
 use Rattle.rtm_top_answers.specs.Status.{status_of}
 use Rattle.rtm_top_answers.specs.Verify.{IsJudgement, IsOfTrace, IsVerifyAnswer, faulted_part}
@@ -49,7 +50,7 @@ its_end d other found s e f g = λ end is.
 not_faulty : (bytes : List ℕ) (d : DeckView) (s : Status) → DeckText bytes d → DeckIfFaulty bytes s
 not_faulty bytes d s spelled = λ card why fault. absurd (never_both bytes d card why spelled fault)
 
--- ---- scan and seq
+-- ---- scan, seq and run
 
 scanned : (bytes : List ℕ) (a : AnswerView) → IsScanAnswer bytes a → IsDueOf requests.Scan bytes a.status
 scanned bytes a h = elim h [
@@ -57,14 +58,28 @@ scanned bytes a h = elim h [
   | inr c ↦ (not_faulty bytes c.deck a.status c.spelled, λ d spelled. ap AnswerView.status c.is)
 ]
 
-ran : (bytes : List ℕ) (a : AnswerView) (told : List Row) → IsSeqAnswer bytes a told → IsDueOf requests.Seq bytes a.status
-ran bytes a told h = elim h [
+-- what holds of the deck and the status of each such run is due
+ran : (makes : DeckView → List Entry → Type 0) (bytes : List ℕ) (a : AnswerView) (told : List Row) (P : DeckView → Type 0)
+    → ((d : DeckView) → IsRunIn makes d a told → P d) → IsRunAnswer makes bytes a told → DeckIfFaulty bytes a.status × ((d : DeckView) → DeckText bytes d → P d)
+ran makes bytes a told P holds h = elim h [
   | inl r ↦ (λ card why fault. ap AnswerView.status r.0.is, λ d spelled. absurd (never_both bytes d r.0.card r.0.why spelled r.0.fault))
   | inr c ↦ (
     not_faulty bytes c.deck a.status c.spelled,
-    λ d spelled. its_end d c.deck c.run.end a.status (one_deck bytes c.deck d c.spelled spelled) c.run.ends (ap AnswerView.status c.run.is),
+    λ d spelled. subst P (one_deck bytes c.deck d c.spelled spelled) (holds c.deck c.run),
   )
 ]
+
+in_turns_due : (bytes : List ℕ) (a : AnswerView) (told : List Row) → IsRunAnswer in_turns bytes a told → IsDueOf requests.Seq bytes a.status
+in_turns_due bytes a told h = ran in_turns bytes a told (λ d. IsOfItsEnd d a.status) of_it h
+  where
+    of_it : (d : DeckView) → IsRunIn in_turns d a told → IsOfItsEnd d a.status
+    of_it d r = its_end d d r.run.end a.status refl (subst (λ (history : List Entry). end_of d history ≡ Some r.run.end) r.made r.run.ends) (ap AnswerView.status r.run.is)
+
+in_any_order_due : (bytes : List ℕ) (a : AnswerView) (told : List Row) → IsRunAnswer in_any_order bytes a told → IsDueOf requests.Run bytes a.status
+in_any_order_due bytes a told h = ran in_any_order bytes a told (λ d. IsOfAnEnd d a.status) of_it h
+  where
+    of_it : (d : DeckView) → IsRunIn in_any_order d a told → IsOfAnEnd d a.status
+    of_it d r = record { history = r.history; legal = r.run.legal; end = r.run.end; ends = r.run.ends; is = ap AnswerView.status r.run.is }
 
 -- ---- verify
 
@@ -131,7 +146,9 @@ due : (request : Request) (left : Option (List ℕ)) (a : AnswerView) (told : Li
 due requests.Scan None a told h = tt
 due requests.Scan (Some bytes) a told h = subst (λ (b : List ℕ). IsDueOf requests.Scan b a.status) h.1 (scanned h.0 a h.2.0)
 due requests.Seq None a told h = tt
-due requests.Seq (Some bytes) a told h = subst (λ (b : List ℕ). IsDueOf requests.Seq b a.status) h.1 (ran h.0 a told h.2)
+due requests.Seq (Some bytes) a told h = subst (λ (b : List ℕ). IsDueOf requests.Seq b a.status) h.1 (in_turns_due h.0 a told h.2)
+due requests.Run None a told h = tt
+due requests.Run (Some bytes) a told h = subst (λ (b : List ℕ). IsDueOf requests.Run b a.status) h.1 (in_any_order_due h.0 a told h.2)
 due requests.Verify None a told h = tt
 due requests.Verify (Some bytes) a told h = subst (λ (b : List ℕ). IsDueOf requests.Verify b a.status) h.1 (verified h.0 a h.2.0)
 due (requests.Load tasks) left a told h = counted tasks a h.2.0

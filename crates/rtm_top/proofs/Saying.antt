@@ -7,12 +7,14 @@ use Rattle.rtm_deck_items.specs.View.{DeckView}
 use Rattle.rtm_desk.specs.Told.{Row, told_by}
 use Rattle.rtm_model.specs.declared.entry.End.{End}
 use Rattle.rtm_model.specs.declared.entry.End.TheVariants.{Ended, Limit, Stalled}
+use Rattle.rtm_model.specs.declared.entry.Entry.{Entry}
 use Rattle.rtm_top.specs.declared.request.Request.{Request}
 use Rattle.rtm_top.specs.declared.request.Request.TheVariants as requests
 use Rattle.rtm_top.specs.Answer.{AreToldUnanswered, AreToldWithoutMemory, Call, IsAnswer, IsDue, IsSent, IsUnmade, Says}
 use Rattle.rtm_top_answers.specs.Load.{IsLoadOf}
 use Rattle.rtm_top_answers.specs.Refusal.{IsRefusalOf}
-use Rattle.rtm_top_answers.specs.Run.{AreToldOfSeqOrNothing}
+use Rattle.rtm_crew.specs.Histories.{in_any_order}
+use Rattle.rtm_top_answers.specs.Run.{AreToldOfRunOrNothing, IsRunAnswer}
 use Rattle.rtm_top_answers.specs.Status.{status_of}
 use Rattle.rtm_top_answers.specs.Verify.{IsOfTrace}
 use Rattle.rtm_top_answers.specs.View.{AnswerView}
@@ -48,7 +50,8 @@ of_trace d bytes a h = elim h [
 answer_is : (request : Request) (bytes : List ℕ) (a : AnswerView) (told : List Row) → IsAnswer request bytes a told → is_of_an_answer a.status ≡ true
 unfolding is_of_an_answer
 answer_is requests.Scan bytes a told h = elim h.0 [ inl r ↦ by a _ r.is refl | inr c ↦ by a _ c.is refl ]
-answer_is requests.Seq bytes a told h = elim h [ inl r ↦ by a _ r.0.is refl | inr c ↦ by a _ c.run.is (end_is c.run.end) ]
+answer_is requests.Seq bytes a told h = elim h [ inl r ↦ by a _ r.0.is refl | inr c ↦ by a _ c.run.run.is (end_is c.run.run.end) ]
+answer_is requests.Run bytes a told h = elim h [ inl r ↦ by a _ r.0.is refl | inr c ↦ by a _ c.run.run.is (end_is c.run.run.end) ]
 answer_is requests.Verify bytes a told h = elim h.0 [ inl r ↦ by a _ r.is refl | inr v ↦ of_trace v.deck _ a v.trace ]
 answer_is (requests.Load tasks) bytes a told h = by a _ h.0.is (end_is h.0.end)
 
@@ -140,6 +143,7 @@ untold_yet P told (Err x) m h = tt
 untold : (request : Request) (bytes : List ℕ) (told : List Row) → told ≡ told_by [] → AreToldUnanswered request bytes told
 untold requests.Scan bytes told m = m
 untold requests.Seq bytes told m = inl m
+untold requests.Run bytes told m = inl m
 untold requests.Verify bytes told m = m
 untold (requests.Load tasks) bytes told m = m
 
@@ -148,14 +152,35 @@ unanswered request bytes told (Ok a) m = tt
 unanswered request bytes told (Err s) m = untold request bytes told m
 
 -- of a run: the status is an error exactly where its answer is one
-pub unanswered_run : {A B E F : Type 0} (bytes : List ℕ) (told : List Row) (answer : Result A E) (r : Result B F) → IfErr r (λ s. IsErr answer)
-    → IfErr answer (λ e. AreToldOfSeqOrNothing bytes told) → IfErr r (λ s. AreToldOfSeqOrNothing bytes told)
-unanswered_run bytes told answer (Ok b) is m = tt
-unanswered_run bytes told (Ok a) (Err s) is m = absurd (false_true is)
+pub unanswered_run : {A B E F : Type 0} (makes : DeckView → List Entry → Type 0) (bytes : List ℕ) (told : List Row) (answer : Result A E) (r : Result B F) → IfErr r (λ s. IsErr answer)
+    → IfErr answer (λ e. AreToldOfRunOrNothing makes bytes told) → IfErr r (λ s. AreToldOfRunOrNothing makes bytes told)
+unanswered_run makes bytes told answer (Ok b) is m = tt
+unanswered_run makes bytes told (Ok a) (Err s) is m = absurd (false_true is)
   where
     false_true : false ≡ true → ⊥
     false_true x = absurd cc
-unanswered_run bytes told (Err e) (Err s) is m = m
+unanswered_run makes bytes told (Err e) (Err s) is m = m
+
+-- a run whose histories are some of the legal ones is one whose history is legal
+pub in_whatever_order : {E : Type 0} (makes : DeckView → List Entry → Type 0) (bytes : List ℕ) (told : List Row) (r : Result AnswerView E)
+    → IfOk r (λ a. IsRunAnswer makes bytes a told) → IfOk r (λ a. IsRunAnswer in_any_order bytes a told)
+in_whatever_order makes bytes told (Ok a) h = elim h [
+  | inl r ↦ inl r
+  | inr c ↦ inr (record { deck = c.deck; spelled = c.spelled; run = record { history = c.run.history; made = tt; run = c.run.run } })
+]
+in_whatever_order makes bytes told (Err x) h = tt
+
+pub told_in_whatever_order : {A E : Type 0} (makes : DeckView → List Entry → Type 0) (bytes : List ℕ) (told : List Row) (r : Result A E)
+    → IfErr r (λ e. AreToldOfRunOrNothing makes bytes told) → IfErr r (λ e. AreToldOfRunOrNothing in_any_order bytes told)
+told_in_whatever_order makes bytes told (Ok a) m = tt
+told_in_whatever_order makes bytes told (Err x) m = elim m [
+  | inl none ↦ inl none
+  | inr all ↦ inr (record {
+    deck = all.deck;
+    spelled = all.spelled;
+    run = record { history = all.run.history; made = tt; legal = all.run.legal; end = all.run.end; ends = all.run.ends; managers = all.run.managers };
+  })
+]
 
 nothing_told : (request : Request) (left : Option (List ℕ)) (told : List Row) → told ≡ told_by [] → AreToldWithoutMemory request left told
 nothing_told request None told m = ([], tt, untold request [] told m)

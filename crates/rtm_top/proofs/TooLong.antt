@@ -78,6 +78,7 @@ is_refusal : (request : Request) (bytes : List ℕ) (a : AnswerView) (told : Lis
     → told ≡ told_by [] → a ≡ refusal card whys.TooLong → IsAnswer request bytes a told
 is_refusal requests.Scan bytes a told card reads long f m e = (inl (record { card = card; why = whys.TooLong; fault = f; is = e }), m)
 is_refusal requests.Seq bytes a told card reads long f m e = inl (record { card = card; why = whys.TooLong; fault = f; is = e }, m)
+is_refusal requests.Run bytes a told card reads long f m e = inl (record { card = card; why = whys.TooLong; fault = f; is = e }, m)
 is_refusal requests.Verify bytes a told card reads long f m e =
     (inl (record { card = card; why = whys.TooLong; fault = subst (λ (part : List ℕ). IsFirstFault part card whys.TooLong) (is_whole bytes long) f; is = e }), m)
 is_refusal (requests.Load tasks) bytes a told card reads long f m e = absurd reads

@@ -4,7 +4,7 @@ use Rattle.std.specs.Prelude.{bytes_eq, codes, decimal, if◌then◌else◌}
 use Rattle.std.specs.Str.Parse.{digits_value}
 use Rattle.std.proofs.lemmas.Fmt.{decimal_is_IsNumeral}
 use Rattle.rtm_top.specs.declared.request.Request.{Request}
-use Rattle.rtm_top.specs.declared.request.Request.TheVariants.{Load, Scan, Seq, Verify}
+use Rattle.rtm_top.specs.declared.request.Request.TheVariants.{Load, Run, Scan, Seq, Verify}
 use Rattle.rtm_top.specs.Request.{IsRequest, words_of}
 
 -- the request of one word
@@ -12,6 +12,7 @@ request_of_name : List ℕ → Option Request
 request_of_name name =
     if bytes_eq name (codes "scan") then Some Scan
     else if bytes_eq name (codes "seq") then Some Seq
+    else if bytes_eq name (codes "run") then Some Run
     else if bytes_eq name (codes "verify") then Some Verify
     else None
 
@@ -25,6 +26,7 @@ found_again : (r : Request) → IsRequest r → request_in (words_of r) ≡ Some
 unfolding request_of_name
 found_again Scan h = refl
 found_again Seq h = refl
+found_again Run h = refl
 found_again Verify h = refl
 found_again (Load n) h = ap (λ (k : ℕ). Some (Load k)) (decimal_is_IsNumeral n (omega (arith, h.1))).1
 

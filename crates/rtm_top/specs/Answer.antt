@@ -4,7 +4,8 @@ use Rattle.rtm_desk.specs.Told.{Row, told_by}
 use Rattle.rtm_io.specs.Faults.{HasRisen}
 use Rattle.rtm_io.specs.Stream.{Appends, AppendsPrefix}
 use Rattle.rtm_top_answers.specs.Load.{IsLoadOf}
-use Rattle.rtm_top_answers.specs.Run.{AreToldOfSeqOrNothing, IsSeqAnswer}
+use Rattle.rtm_crew.specs.Histories.{in_any_order, in_turns}
+use Rattle.rtm_top_answers.specs.Run.{AreToldOfRunOrNothing, IsRunAnswer}
 use Rattle.rtm_top_answers.specs.Scan.{IsScanAnswer}
 use Rattle.rtm_top_answers.specs.Verify.{IsVerifyAnswer}
 use Rattle.rtm_top_answers.specs.View.{AnswerView}
@@ -14,10 +15,12 @@ use Rattle.rtm_top.specs.declared.request.Request.{Request}
 use Rattle.rtm_top.specs.declared.request.Request.TheVariants as requests
 
 -- What is to be written of the bytes that were read; a load is made of its number alone. The managers handed in are told
--- of the run of `seq`, and of nothing else.
+-- of the run of `seq` or `run`, and of nothing else. Under `seq` its history is the one of a single thread, and under
+-- `run` any that is legal.
 abbrev pub IsAnswer : Request → List ℕ → AnswerView → List Row → Type 0
 IsAnswer requests.Scan bytes answer told = IsScanAnswer bytes answer × (told ≡ told_by [])
-IsAnswer requests.Seq bytes answer told = IsSeqAnswer bytes answer told
+IsAnswer requests.Seq bytes answer told = IsRunAnswer in_turns bytes answer told
+IsAnswer requests.Run bytes answer told = IsRunAnswer in_any_order bytes answer told
 IsAnswer requests.Verify bytes answer told = IsVerifyAnswer bytes answer × (told ≡ told_by [])
 IsAnswer (requests.Load tasks) bytes answer told = IsLoadOf tasks answer × (told ≡ told_by [])
 
@@ -26,11 +29,11 @@ abbrev pub IsDue : Request → Option (List ℕ) → AnswerView → List Row →
 IsDue request left answer told =
     (bytes : List ℕ) × IfSome left (λ read. bytes ≡ read) × IsAnswer request bytes answer told
 
--- what the managers were told where memory is wanting: nothing, but for a run of `seq`, whose text may be what it is
--- wanting for
+-- what the managers were told where memory is wanting: nothing, but for a run, whose text may be what it is wanting for
 abbrev pub AreToldUnanswered : Request → List ℕ → List Row → Type 0
 AreToldUnanswered requests.Scan bytes told = told ≡ told_by []
-AreToldUnanswered requests.Seq bytes told = AreToldOfSeqOrNothing bytes told
+AreToldUnanswered requests.Seq bytes told = AreToldOfRunOrNothing in_turns bytes told
+AreToldUnanswered requests.Run bytes told = AreToldOfRunOrNothing in_any_order bytes told
 AreToldUnanswered requests.Verify bytes told = told ≡ told_by []
 AreToldUnanswered (requests.Load tasks) bytes told = told ≡ told_by []
 
@@ -52,7 +55,7 @@ pub record Call : Type 0 where
   pub told : List Row
 
 -- The answer that is due was written, all of it, and the status is its own; the managers were told of the run that it is
--- the trace of, where it is one of `seq`. No fault was counted.
+-- the trace of, where there is one. No fault was counted.
 pub record HasAnswered (request : Request) (call : Call) (s : Status) : Type 0 where
   pub answer : AnswerView
   pub due : IsDue request call.left answer call.told

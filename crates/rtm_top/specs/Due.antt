@@ -10,7 +10,7 @@ use Rattle.rtm_trace_judge.specs.Judged.{IsFirstIllegal, IsJudged, IsWrongEnd}
 use Rattle.rtm_deck_load.specs.Deck.{load_deck}
 use Rattle.rtm_model.specs.declared.entry.End.{End}
 use Rattle.rtm_model.specs.declared.entry.Entry.{Entry}
-use Rattle.rtm_model.specs.Legal.{end_of}
+use Rattle.rtm_model.specs.Legal.{Legal, end_of}
 use Rattle.rtm_model.specs.Turns.{seq}
 use Rattle.rtm_cards.specs.Split.{trace_part}
 use Rattle.rtm_trace.specs.Lines.{IsFirstBadLine, IsTraceOf}
@@ -36,9 +36,21 @@ FineIfSpelled bytes s = (d : DeckView) → DeckText bytes d → s ≡ status.Fin
 abbrev pub IsOfItsEnd : DeckView → Status → Type 0
 IsOfItsEnd d s = (end : End) → end_of d (seq d) ≡ Some end → s ≡ status_of end
 
--- a deck is run
+-- a deck is run on a single thread
 abbrev pub OfItsEndIfSpelled : List ℕ → Status → Type 0
 OfItsEndIfSpelled bytes s = (d : DeckView) → DeckText bytes d → IsOfItsEnd d s
+
+-- The status is that of the end of a legal history of the deck.
+pub record IsOfAnEnd (d : DeckView) (s : Status) : Type 0 where
+  pub history : List Entry
+  pub legal : Legal d history
+  pub end : End
+  pub ends : end_of d history ≡ Some end
+  pub is : s ≡ status_of end
+
+-- a deck is run in whatever order
+abbrev pub OfAnEndIfSpelled : List ℕ → Status → Type 0
+OfAnEndIfSpelled bytes s = (d : DeckView) → DeckText bytes d → IsOfAnEnd d s
 
 -- bytes with a bad line are refused
 abbrev pub LineIfBad : DeckView → List ℕ → Status → Type 0
@@ -62,6 +74,7 @@ ByItsTraceIfSpelled bytes s = (d : DeckView) → DeckText (faulted_part bytes) d
 abbrev pub IsDueOf : Request → List ℕ → Status → Type 0
 IsDueOf requests.Scan bytes s = DeckIfFaulty bytes s × FineIfSpelled bytes s
 IsDueOf requests.Seq bytes s = DeckIfFaulty bytes s × OfItsEndIfSpelled bytes s
+IsDueOf requests.Run bytes s = DeckIfFaulty bytes s × OfAnEndIfSpelled bytes s
 IsDueOf requests.Verify bytes s = DeckIfFaulty (faulted_part bytes) s × ByItsTraceIfSpelled bytes s
 IsDueOf (requests.Load tasks) bytes s = IsOfItsEnd (load_deck tasks) s
 

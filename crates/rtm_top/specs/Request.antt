@@ -7,6 +7,7 @@ use Rattle.rtm_top.specs.declared.request.Request.TheVariants as requests
 abbrev pub words_of : Request → List (List ℕ)
 words_of requests.Scan = codes "scan" ∷ []
 words_of requests.Seq = codes "seq" ∷ []
+words_of requests.Run = codes "run" ∷ []
 words_of requests.Verify = codes "verify" ∷ []
 words_of (requests.Load tasks) = codes "load" ∷ decimal tasks ∷ []
 

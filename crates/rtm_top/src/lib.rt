@@ -8,7 +8,8 @@ mod top;
 mod word;
 
 pub use outcome::Outcome;
+pub use request::{Request, request_of};
 pub use rtm_top_answers::Status;
 pub use send::types_are_send;
-pub use top::plain_words;
+pub use top::{do_request, plain_words};
 pub use word::RtmWord;

@@ -13,6 +13,8 @@ pub enum Request {
     Scan,
     /// Run a deck on one thread and write its trace.
     Seq,
+    /// Run a deck as the caller's runner does, on threads say, and write its trace.
+    Run,
     /// Read a deck with a trace, and judge the trace.
     Verify,
     /// Run the deck that is made of so many tasks, and write what came of it in one line.
@@ -27,6 +29,7 @@ pub fn request_of(words: &[RtmWord]) -> Option<Request>
     match words {
         [word] if is_word(word, b"scan") => Some(Request::Scan),
         [word] if is_word(word, b"seq") => Some(Request::Seq),
+        [word] if is_word(word, b"run") => Some(Request::Run),
         [word] if is_word(word, b"verify") => Some(Request::Verify),
         [word, number] if is_word(word, b"load") => load_of(number),
         _ => None,

@@ -2,6 +2,7 @@
 
 ghost use Rattle.std.specs.Prelude.{◌≡◌, ◌≢◌, ◌↔◌, ◌≤◌, ◌+◌, [], ℕ, IfOk, IfErr, IsErr, OnOk, length, map};
 ghost use Rattle.rtm_cards.specs.Limits.{most_bytes};
+ghost use Rattle.rtm_crew.specs.Histories.{in_any_order};
 ghost use Rattle.rtm_desk.specs.Told.{Row, told_by, told_to};
 ghost use Rattle.rtm_io.specs.Stream.{TakesAtMost};
 ghost use Rattle.rtm_top.specs.Answer.{AreToldUnanswered, IsAnswer, IsDue, IsSent, IsUnmade, Says};
@@ -10,17 +11,19 @@ ghost use Rattle.rtm_top.specs.Request.{AreUnknown, IsRequest, Reads, words_of};
 ghost use Rattle.rtm_top.specs.declared.request.Request.{Request};
 ghost use Rattle.rtm_top_answers.specs.Load.{IsLoadOf};
 ghost use Rattle.rtm_top_answers.specs.Refusal.{refusal};
+ghost use Rattle.rtm_top_answers.specs.Run.{AreToldOfRunOrNothing, IsRunAnswer};
 
 use crate::outcome::Outcome;
 use crate::request::{Request, request_of};
 use crate::word::RtmWord;
 use rtm_cards::MOST_BYTES;
 use rtm_codes::NoMemory;
+use rtm_crew::{InTurns, Runner};
 use rtm_deck_items::Why;
 use rtm_desk::Manager;
 use rtm_io::{InFault, Sink, Source, read_all, write_all};
 use rtm_top_answers::{
-    Answer, Status, load_answer, refusal, scan_answer, seq_answer, verify_answer,
+    Answer, Status, load_answer, refusal, run_answer, scan_answer, verify_answer,
 };
 use std::alloc::Global;
 
@@ -36,13 +39,31 @@ fn or_memory(answer: Result<Answer, NoMemory>) -> Result<Answer, Status>
     }
 }
 
-// What is to be written of the bytes that were read, and the managers, which are told of the run of a `seq`.
+// What is to be written of a run by that runner, whose histories are legal ones.
+#[tactic(auto, using(crate::proofs::Saying::in_whatever_order, crate::proofs::Saying::told_in_whatever_order))]
+fn legal_answer<M: Manager + Send, X: Runner>(
+    alloc: Global,
+    bytes: &[u8],
+    managers: Vec<M>,
+    runner: &X,
+) -> (Result<Answer, NoMemory>, Vec<M>)
+    requires { told_to M.class M.released managers.items ≡ told_by [] }
+    ensures made { IfOk result.0 (λ answer.
+        IsRunAnswer in_any_order bytes.now answer (told_to M.class M.released result.1.items)) }
+    ensures refused { IfErr result.0 (λ e.
+        AreToldOfRunOrNothing in_any_order bytes.now (told_to M.class M.released result.1.items)) }
+{
+    run_answer::<M, X>(alloc, bytes, managers, runner)
+}
+
+// What is to be written of the bytes that were read, and the managers, which are told of the run, where there is one.
 #[tactic(auto, using(crate::proofs::Saying::untold_yet, crate::proofs::Saying::unanswered, crate::proofs::Saying::unanswered_run))]
-fn answer_of<M: Manager>(
+fn answer_of<M: Manager + Send, X: Runner>(
     alloc: Global,
     request: Request,
     bytes: &[u8],
     managers: Vec<M>,
+    runner: &X,
 ) -> (Result<Answer, Status>, Vec<M>)
     requires reads { Reads request }
     requires few { length bytes.now ≤ most_bytes }
@@ -55,7 +76,8 @@ fn answer_of<M: Manager>(
 {
     let (answer, managers) = match request {
         Request::Scan => (scan_answer(alloc, bytes), managers),
-        Request::Seq => seq_answer::<M>(alloc, bytes, managers),
+        Request::Seq => run_answer::<M, InTurns>(alloc, bytes, managers, &InTurns),
+        Request::Run => legal_answer::<M, X>(alloc, bytes, managers, runner),
         Request::Verify => (verify_answer(alloc, bytes), managers),
         Request::Load(_) => unreachable!("a load reads nothing"),
     };
@@ -72,11 +94,12 @@ fn too_long_answer(alloc: Global, card: u32) -> Result<Answer, Status>
 
 // Reads all bytes, and makes what is to be written of them.
 #[tactic(auto, using(crate::proofs::TooLong::of_fault, crate::proofs::Saying::due_read, crate::proofs::Saying::unmade_read, crate::proofs::Saying::unmade_for_memory, crate::proofs::Saying::unmade_by_memory, crate::proofs::Saying::unmade_by_read))]
-fn read_answer<S: Source, M: Manager>(
+fn read_answer<S: Source, M: Manager + Send, X: Runner>(
     alloc: Global,
     request: Request,
     src: &mut S,
     managers: Vec<M>,
+    runner: &X,
 ) -> (Result<Answer, Status>, Vec<M>)
     requires reads { Reads request }
     requires untold { told_to M.class M.released managers.items ≡ told_by [] }
@@ -90,7 +113,7 @@ fn read_answer<S: Source, M: Manager>(
     ensures later { S.faults src.old ≤ S.faults src.new }
 {
     match read_all(alloc, src, MOST_BYTES) {
-        Ok(bytes) => answer_of::<M>(alloc, request, &bytes, managers),
+        Ok(bytes) => answer_of::<M, X>(alloc, request, &bytes, managers, runner),
         Err(InFault::TooLong { line }) => (too_long_answer(alloc, line), managers),
         Err(InFault::Memory) => (Err(Status::Memory), managers),
         Err(InFault::Read) => (Err(Status::Read), managers),
@@ -108,11 +131,12 @@ fn load_made(alloc: Global, tasks: u8) -> Result<Answer, Status>
 
 // Makes what is to be written. A load leaves the source alone, and the managers.
 #[tactic(auto, using(crate::proofs::Saying::due_load, crate::proofs::Saying::takes_none, crate::proofs::Saying::unmade_for_memory))]
-fn make_answer<S: Source, M: Manager>(
+fn make_answer<S: Source, M: Manager + Send, X: Runner>(
     alloc: Global,
     request: Request,
     src: &mut S,
     managers: Vec<M>,
+    runner: &X,
 ) -> (Result<Answer, Status>, Vec<M>)
     requires known { IsRequest request }
     requires untold { told_to M.class M.released managers.items ≡ told_by [] }
@@ -128,7 +152,7 @@ fn make_answer<S: Source, M: Manager>(
 {
     match request {
         Request::Load(tasks) => (load_made(alloc, tasks), managers),
-        _ => read_answer::<S, M>(alloc, request, src, managers),
+        _ => read_answer::<S, M, X>(alloc, request, src, managers, runner),
     }
 }
 
@@ -147,15 +171,16 @@ fn write_answer<K: Sink>(out: &mut K, answer: &Answer) -> Status
 /// Does what the words say, and nothing else: `scan` reads a deck from the source and writes its canonical text, `seq`
 /// runs it on one thread and writes its trace; `verify` reads a deck and the trace that follows it, and judges the
 /// trace; `load n` runs a deck that is made of n tasks, 1 to 60, and writes how many entries and releases its run
-/// has. It reads nothing.
+/// has. It reads nothing. Of `run` it makes what it makes of `seq`, which is one of the histories that `run` may have:
+/// it starts no thread.
 ///
 /// An input that spells no deck is refused with its first fault; one of more than 16,777,216 bytes is too long. Of a
 /// trace the first bad line is named, else the first entry that may not stand where it does with the one that was
 /// wanted, else the end where it is another than stated.
 ///
-/// The managers are four, in the order of the classes, ENQ, STOR, DSN, TIMR, and were told nothing yet. Under `seq`
-/// each is told of the releases of its class, those of the trace that is written and no other; under other words, and
-/// where there is no run, they are told nothing. They come back in the same order.
+/// The managers are four, in the order of the classes, ENQ, STOR, DSN, TIMR, and were told nothing yet. Under `seq` and
+/// `run` each is told of the releases of its class, those of the trace that is written and no other; under other words,
+/// and where there is no run, they are told nothing. They come back in the same order.
 pub fn plain_words<S: Source, K: Sink>(
     alloc: Global,
     words: &[RtmWord],
@@ -206,22 +231,23 @@ pub fn plain_words<S: Source, K: Sink>(
             managers,
         },
         Some(request) => {
-            let (status, managers) = done::<S, K, Box<dyn Manager + Send>>(
-                alloc, request, src, out, managers,
+            let (status, managers) = do_request::<S, K, Box<dyn Manager + Send>, InTurns>(
+                alloc, request, src, out, managers, &InTurns,
             );
             Outcome { status, managers }
         }
     }
 }
 
-// Does what is asked for, and answers the status and the managers.
+/// Does what is asked for, and answers the status and the managers, in the same order. A `run` is made by that runner.
 #[tactic(auto, using(crate::proofs::Saying::says_sent, crate::proofs::Saying::says_unmade, crate::proofs::Saying::sent_is_not_read, crate::proofs::Saying::sent_is_not_memory, crate::proofs::Saying::sent_is_not_words, crate::proofs::Saying::unmade_is_not_words))]
-fn done<S: Source, K: Sink, M: Manager>(
+pub fn do_request<S: Source, K: Sink, M: Manager + Send, X: Runner>(
     alloc: Global,
     request: Request,
     src: &mut S,
     out: &mut K,
     managers: Vec<M>,
+    runner: &X,
 ) -> (Status, Vec<M>)
     requires known { IsRequest request }
     requires untold { told_to M.class M.released managers.items ≡ told_by [] }
@@ -243,7 +269,7 @@ fn done<S: Source, K: Sink, M: Manager>(
       told = told_to M.class M.released result.1.items;
     }) result.0 }
 {
-    let (answer, managers) = make_answer::<S, M>(alloc, request, src, managers);
+    let (answer, managers) = make_answer::<S, M, X>(alloc, request, src, managers, runner);
     match answer {
         Err(status) => (status, managers),
         Ok(answer) => (write_answer(out, &answer), managers),

@@ -17,7 +17,7 @@ use Rattle.rtm_trace.specs.Lines.{IsFirstBadLine, IsTraceOf}
 use Rattle.rtm_trace.specs.View.{TraceView}
 use Rattle.rtm_top_answers.specs.Load.{IsLoadOf, counted_answer}
 use Rattle.rtm_top_answers.specs.Refusal.{refusal}
-use Rattle.rtm_top_answers.specs.Run.{AreToldOfSeqOrNothing, IsRunBy, IsSeqAnswer, traced_answer}
+use Rattle.rtm_top_answers.specs.Run.{AreToldOfRunIn, AreToldOfRunOrNothing, IsRunAnswer, IsRunIn, traced_answer}
 use Rattle.rtm_top_answers.specs.Scan.{IsScanAnswer, canonical}
 use Rattle.rtm_top_answers.specs.Verify.{IsJudgement, IsOfTrace, IsVerifyAnswer, bad_line, faulted_part, not_legal, verified_answer, wrong_end}
 use Rattle.rtm_top_answers.specs.View.{AnswerView}
@@ -35,42 +35,43 @@ pub scanned_deck : {E : Type 0} (bytes : List ℕ) (d : DeckView) (r : Result An
 scanned_deck bytes d (Ok a) s e = inr (record { deck = d; spelled = s; is = e })
 scanned_deck bytes d (Err x) s e = tt
 
--- ---- seq
+-- ---- a run
 
-pub run_by : {E : Type 0} (d : DeckView) (history : List Entry) (end : End) (told : List Row) (r : Result AnswerView E) → Legal d history → end_of d history ≡ Some end
-    → told ≡ told_by history → IfOk r (λ a. a ≡ traced_answer d history end) → IfOk r (λ a. IsRunBy d history a told)
-run_by d history end told (Ok a) l n m e = record { legal = l; end = end; ends = n; is = e; managers = m }
-run_by d history end told (Err x) l n m e = tt
+module _ {E : Type 0} (makes : DeckView → List Entry → Type 0) where
+  pub run_in : (d : DeckView) (history : List Entry) (end : End) (told : List Row) (r : Result AnswerView E) → makes d history → Legal d history → end_of d history ≡ Some end
+      → told ≡ told_by history → IfOk r (λ a. a ≡ traced_answer d history end) → IfOk r (λ a. IsRunIn makes d a told)
+  run_in d history end told (Ok a) makes_it l n m e = record { history = history; made = makes_it; run = record { legal = l; end = end; ends = n; is = e; managers = m } }
+  run_in d history end told (Err x) makes_it l n m e = tt
 
-pub told_none : {E : Type 0} (history : List Entry) (told : List Row) (r : Result AnswerView E) → told ≡ told_by []
-    → IfErr r (λ e. (told ≡ told_by []) ⊎ (told ≡ told_by history))
-told_none history told (Ok a) m = tt
-told_none history told (Err x) m = inl m
+  pub told_none : (d : DeckView) (told : List Row) (r : Result AnswerView E) → told ≡ told_by []
+      → IfErr r (λ e. (told ≡ told_by []) ⊎ AreToldOfRunIn makes d told)
+  told_none d told (Ok a) m = tt
+  told_none d told (Err x) m = inl m
 
-pub told_all : {E : Type 0} (history : List Entry) (told : List Row) (r : Result AnswerView E) → told ≡ told_by history
-    → IfErr r (λ e. (told ≡ told_by []) ⊎ (told ≡ told_by history))
-told_all history told (Ok a) m = tt
-told_all history told (Err x) m = inr m
+  pub told_all : (d : DeckView) (history : List Entry) (end : End) (told : List Row) (r : Result AnswerView E) → makes d history → Legal d history → end_of d history ≡ Some end
+      → told ≡ told_by history → IfErr r (λ e. (told ≡ told_by []) ⊎ AreToldOfRunIn makes d told)
+  told_all d history end told (Ok a) makes_it l n m = tt
+  told_all d history end told (Err x) makes_it l n m = inr (record { history = history; made = makes_it; legal = l; end = end; ends = n; managers = m })
 
-pub run_fault : {E : Type 0} (bytes : List ℕ) (card : ℕ) (why : Why) (told : List Row) (r : Result AnswerView E) → IsFirstFault bytes card why → told ≡ told_by []
-    → IfOk r (λ a. a ≡ refusal card why) → IfOk r (λ a. IsSeqAnswer bytes a told)
-run_fault bytes card why told (Ok a) f m e = inl (record { card = card; why = why; fault = f; is = e }, m)
-run_fault bytes card why told (Err x) f m e = tt
+  pub run_fault : (bytes : List ℕ) (card : ℕ) (why : Why) (told : List Row) (r : Result AnswerView E) → IsFirstFault bytes card why → told ≡ told_by []
+      → IfOk r (λ a. a ≡ refusal card why) → IfOk r (λ a. IsRunAnswer makes bytes a told)
+  run_fault bytes card why told (Ok a) f m e = inl (record { card = card; why = why; fault = f; is = e }, m)
+  run_fault bytes card why told (Err x) f m e = tt
 
-pub run_deck : {E : Type 0} (bytes : List ℕ) (d : DeckView) (told : List Row) (r : Result AnswerView E) → DeckText bytes d
-    → IfOk r (λ a. IsRunBy d (seq d) a told) → IfOk r (λ a. IsSeqAnswer bytes a told)
-run_deck bytes d told (Ok a) s run = inr (record { deck = d; spelled = s; run = run })
-run_deck bytes d told (Err x) s run = tt
+  pub run_deck : (bytes : List ℕ) (d : DeckView) (told : List Row) (r : Result AnswerView E) → DeckText bytes d
+      → IfOk r (λ a. IsRunIn makes d a told) → IfOk r (λ a. IsRunAnswer makes bytes a told)
+  run_deck bytes d told (Ok a) s run = inr (record { deck = d; spelled = s; run = run })
+  run_deck bytes d told (Err x) s run = tt
 
-pub told_nothing : {E : Type 0} (bytes : List ℕ) (told : List Row) (r : Result AnswerView E) → told ≡ told_by []
-    → IfErr r (λ e. AreToldOfSeqOrNothing bytes told)
-told_nothing bytes told (Ok a) m = tt
-told_nothing bytes told (Err x) m = inl m
+  pub told_nothing : (bytes : List ℕ) (told : List Row) (r : Result AnswerView E) → told ≡ told_by []
+      → IfErr r (λ e. AreToldOfRunOrNothing makes bytes told)
+  told_nothing bytes told (Ok a) m = tt
+  told_nothing bytes told (Err x) m = inl m
 
-pub told_deck : {E : Type 0} (bytes : List ℕ) (d : DeckView) (told : List Row) (r : Result AnswerView E) → DeckText bytes d
-    → IfErr r (λ e. (told ≡ told_by []) ⊎ (told ≡ told_by (seq d))) → IfErr r (λ e. AreToldOfSeqOrNothing bytes told)
-told_deck bytes d told (Ok a) s m = tt
-told_deck bytes d told (Err x) s m = elim m [ inl none ↦ inl none | inr all ↦ inr (record { deck = d; spelled = s; managers = all }) ]
+  pub told_deck : (bytes : List ℕ) (d : DeckView) (told : List Row) (r : Result AnswerView E) → DeckText bytes d
+      → IfErr r (λ e. (told ≡ told_by []) ⊎ AreToldOfRunIn makes d told) → IfErr r (λ e. AreToldOfRunOrNothing makes bytes told)
+  told_deck bytes d told (Ok a) s m = tt
+  told_deck bytes d told (Err x) s m = elim m [ inl none ↦ inl none | inr all ↦ inr (record { deck = d; spelled = s; run = all }) ]
 
 -- ---- load
 

@@ -1,4 +1,4 @@
--- What is written of a deck that is run (this profile).
+-- What is written of a deck that is run (this profile). Which of its histories a run makes is the runner's.
 use Rattle.std.specs.Prelude.{List, Some, [], ℕ, ◌≡◌, ◌⊎◌}
 use Rattle.rtm_deck_items.specs.Spelling.{DeckText}
 use Rattle.rtm_deck_items.specs.View.{DeckView}
@@ -6,7 +6,6 @@ use Rattle.rtm_desk.specs.Told.{Row, told_by}
 use Rattle.rtm_model.specs.declared.entry.End.{End}
 use Rattle.rtm_model.specs.declared.entry.Entry.{Entry}
 use Rattle.rtm_model.specs.Legal.{Legal, end_of}
-use Rattle.rtm_model.specs.Turns.{seq}
 use Rattle.rtm_trace.specs.Text.{trace_text}
 use Rattle.rtm_top_answers.specs.Refusal.{IsRefusalOf}
 use Rattle.rtm_top_answers.specs.Status.{status_of}
@@ -24,28 +23,41 @@ pub record IsRunBy (d : DeckView) (history : List Entry) (answer : AnswerView) (
   pub is : answer ≡ traced_answer d history end
   pub managers : told ≡ told_by history
 
--- The bytes spell a deck, the answer is the trace of the one history that a single thread makes of it, and the managers
--- were told of that history's releases.
-pub record IsSeqOf (bytes : List ℕ) (answer : AnswerView) (told : List Row) : Type 0 where
+-- The answer is that of a run of the deck, whose history is one of those.
+pub record IsRunIn (makes : DeckView → List Entry → Type 0) (d : DeckView) (answer : AnswerView) (told : List Row) : Type 0 where
+  pub history : List Entry
+  pub made : makes d history
+  pub run : IsRunBy d history answer told
+
+-- The bytes spell a deck, and the answer is that of a run of it.
+pub record IsRunOf (makes : DeckView → List Entry → Type 0) (bytes : List ℕ) (answer : AnswerView) (told : List Row) : Type 0 where
   pub deck : DeckView
   pub spelled : DeckText bytes deck
-  pub run : IsRunBy deck (seq deck) answer told
+  pub run : IsRunIn makes deck answer told
 
 -- the answer names the first fault of the bytes, and the managers were told nothing
 abbrev pub IsRefused : List ℕ → AnswerView → List Row → Type 0
 IsRefused bytes answer told = IsRefusalOf bytes answer × (told ≡ told_by [])
 
--- what is to be written of the bytes that were read, under `seq`, and what the managers were told
-abbrev pub IsSeqAnswer : List ℕ → AnswerView → List Row → Type 0
-IsSeqAnswer bytes answer told = IsRefused bytes answer told ⊎ IsSeqOf bytes answer told
+-- what is to be written of the bytes that were read where a deck is run, and what the managers were told
+abbrev pub IsRunAnswer : (DeckView → List Entry → Type 0) → List ℕ → AnswerView → List Row → Type 0
+IsRunAnswer makes bytes answer told = IsRefused bytes answer told ⊎ IsRunOf makes bytes answer told
 
--- The bytes spell a deck, and the managers were told of the releases of the one history that a single thread makes of
--- it.
-pub record AreToldOfSeq (bytes : List ℕ) (told : List Row) : Type 0 where
+-- The managers were told of the releases of a run of the deck, to its end.
+pub record AreToldOfRunIn (makes : DeckView → List Entry → Type 0) (d : DeckView) (told : List Row) : Type 0 where
+  pub history : List Entry
+  pub made : makes d history
+  pub legal : Legal d history
+  pub end : End
+  pub ends : end_of d history ≡ Some end
+  pub managers : told ≡ told_by history
+
+-- The bytes spell a deck, and the managers were told of the releases of a run of it.
+pub record AreToldOfRunOf (makes : DeckView → List Entry → Type 0) (bytes : List ℕ) (told : List Row) : Type 0 where
   pub deck : DeckView
   pub spelled : DeckText bytes deck
-  pub managers : told ≡ told_by (seq deck)
+  pub run : AreToldOfRunIn makes deck told
 
 -- what the managers were told where memory is wanting: nothing, as long as no entry was made; else all of the run
-abbrev pub AreToldOfSeqOrNothing : List ℕ → List Row → Type 0
-AreToldOfSeqOrNothing bytes told = (told ≡ told_by []) ⊎ AreToldOfSeq bytes told
+abbrev pub AreToldOfRunOrNothing : (DeckView → List Entry → Type 0) → List ℕ → List Row → Type 0
+AreToldOfRunOrNothing makes bytes told = (told ≡ told_by []) ⊎ AreToldOfRunOf makes bytes told

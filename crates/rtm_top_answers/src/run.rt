@@ -1,15 +1,14 @@
-//! What is written of a deck that is run on one thread.
+//! What is written of a deck that is run.
 
 ghost use Rattle.std.specs.Prelude.{◌≡◌, ◌⊎◌, [], IfErr, IfOk};
 ghost use Rattle.rtm_desk.specs.Told.{told_by, told_to};
-ghost use Rattle.rtm_model.specs.Turns.{seq};
-ghost use Rattle.rtm_top_answers.specs.Run.{AreToldOfSeqOrNothing, IsRunBy, IsSeqAnswer, traced_answer};
+ghost use Rattle.rtm_top_answers.specs.Run.{AreToldOfRunIn, AreToldOfRunOrNothing, IsRunAnswer, IsRunIn, traced_answer};
 
 use crate::answer::Answer;
 use crate::refusals::refusal;
 use crate::status::Status;
 use rtm_codes::NoMemory;
-use rtm_crew::{NoRun, run_with};
+use rtm_crew::{NoRun, Runner};
 use rtm_deck::{DeckFault, read_deck};
 use rtm_deck_items::Deck;
 use rtm_desk::Manager;
@@ -30,20 +29,21 @@ fn traced_answer(alloc: Global, system: &System, end: End) -> Result<Answer, NoM
 
 // What is written of a deck that is run, and the managers, told of its releases. Where memory is wanting before the
 // first entry they were told nothing, and where the text can't be made they were told of all.
-#[tactic(auto, using(crate::proofs::Answers::run_by, crate::proofs::Answers::told_all, crate::proofs::Answers::told_none))]
-fn run_answer<M: Manager>(
+#[tactic(auto, using(crate::proofs::Answers::run_in, crate::proofs::Answers::told_all, crate::proofs::Answers::told_none))]
+fn deck_answer<M: Manager + Send, X: Runner>(
     alloc: Global,
     deck: Deck,
     managers: Vec<M>,
+    runner: &X,
 ) -> (Result<Answer, NoMemory>, Vec<M>)
     requires { told_to M.class M.released managers.items ≡ told_by [] }
     ensures made { IfOk result.0 (λ answer.
-        IsRunBy deck (seq deck) answer (told_to M.class M.released result.1.items)) }
+        IsRunIn X.makes deck answer (told_to M.class M.released result.1.items)) }
     ensures refused { IfErr result.0 (λ e.
         (told_to M.class M.released result.1.items ≡ told_by [])
-        ⊎ (told_to M.class M.released result.1.items ≡ told_by (seq deck))) }
+        ⊎ AreToldOfRunIn X.makes deck (told_to M.class M.released result.1.items)) }
 {
-    match run_with::<M>(alloc, deck, managers) {
+    match runner.run::<M>(alloc, deck, managers) {
         Ok((region, end)) => {
             let (system, managers) = region.into_parts();
             system.trace();
@@ -53,23 +53,24 @@ fn run_answer<M: Manager>(
     }
 }
 
-/// What is to be written for the bytes of a deck under the word `seq`: the trace of its run, or its first fault. These
+/// What is to be written for the bytes of a deck that this runner runs: the trace of its run, or its first fault. These
 /// managers are told of the releases of the run. There are four of them, in the order of the classes, ENQ, STOR, DSN,
 /// TIMR, and they were told nothing yet; they come back in that order.
 #[tactic(auto, using(crate::proofs::Answers::run_deck, crate::proofs::Answers::run_fault, crate::proofs::Answers::told_deck, crate::proofs::Answers::told_nothing))]
-pub fn seq_answer<M: Manager>(
+pub fn run_answer<M: Manager + Send, X: Runner>(
     alloc: Global,
     bytes: &[u8],
     managers: Vec<M>,
+    runner: &X,
 ) -> (Result<Answer, NoMemory>, Vec<M>)
     requires { told_to M.class M.released managers.items ≡ told_by [] }
     ensures made { IfOk result.0 (λ answer.
-        IsSeqAnswer bytes.now answer (told_to M.class M.released result.1.items)) }
+        IsRunAnswer X.makes bytes.now answer (told_to M.class M.released result.1.items)) }
     ensures refused { IfErr result.0 (λ e.
-        AreToldOfSeqOrNothing bytes.now (told_to M.class M.released result.1.items)) }
+        AreToldOfRunOrNothing X.makes bytes.now (told_to M.class M.released result.1.items)) }
 {
     match read_deck(alloc, bytes) {
-        Ok(deck) => run_answer::<M>(alloc, deck, managers),
+        Ok(deck) => deck_answer::<M, X>(alloc, deck, managers, runner),
         Err(DeckFault::Memory) => (Err(NoMemory), managers),
         Err(DeckFault::Refused { card, why }) => (refusal(alloc, card, why), managers),
     }

@@ -7,15 +7,19 @@ ghost use Rattle.rtmrun.specs.Words.{HasNoWords};
 ghost use Rattle.std.specs.Process.{exit_status};
 ghost use Rattle.rtm_top_answers.specs.Status.{status_number};
 
+use rtm_crew_threads::OpenGate;
 use rtm_desk::{Manager, MemManager};
 use rtm_io::{Sink, Source, StdSink, StdSource};
 use rtm_model::Res;
-use rtm_top::{RtmWord, Status, plain_words};
+use rtm_top::{RtmWord, Status};
+use rtm_top_words::rtm_words;
 use std::alloc::{AllocError, Global};
 use std::env;
 use std::io::ErrorKind;
 use std::process::ExitCode;
 use std::rt::Env;
+use std::sync::Wait;
+use std::thread::Threads;
 
 // The words behind the program's name, which is the first of all.
 fn words_behind(alloc: Global, all: Vec<String>) -> Result<Vec<RtmWord>, AllocError>
@@ -43,8 +47,9 @@ fn all_words<R: Env + AllocGlobal>(rt: &R) -> Result<Vec<String>, Status>
 }
 
 // Does what the words say, with managers in memory that are told of the releases of a run, and are dropped when it is
-// over.
-fn called<S: Source, K: Sink>(
+// over. Nobody is told of the workers of a run and of their entries.
+fn called<S: Source, K: Sink, R: Threads + Wait + Sync>(
+    rt: &R,
     alloc: Global,
     words: &[RtmWord],
     src: &mut S,
@@ -66,7 +71,7 @@ fn called<S: Source, K: Sink>(
     managers.push(Box::new(alloc, MemManager::new(alloc, Res::Stor))?)?;
     managers.push(Box::new(alloc, MemManager::new(alloc, Res::Dsn))?)?;
     managers.push(Box::new(alloc, MemManager::new(alloc, Res::Timr))?)?;
-    let outcome = plain_words(alloc, words, src, out, managers);
+    let outcome = rtm_words(rt, alloc, words, src, out, managers, &OpenGate);
     Ok(outcome.status)
 }
 
@@ -86,7 +91,7 @@ fn main(rt: HostRuntime) -> ExitCode {
         Ok(words) => {
             let mut src = StdSource::over(rt.stdin());
             let mut out = StdSink::over(rt.stdout());
-            match called(rt.alloc(), &words, &mut src, &mut out) {
+            match called(&rt, rt.alloc(), &words, &mut src, &mut out) {
                 Ok(status) => status,
                 Err(AllocError) => Status::Memory,
             }

@@ -1,5 +1,0 @@
-use Rattle.rtm_crew.proofs.Regions.{in_order}
-use Rattle.rtm_crew.proofs.run.run_with.Goals as goal
-
-pub over-desks-requires : goal.over-desks-requires
-over-desks-requires g c = record { order = in_order g.M.Manager.class g.M.Manager.released c.args.managers.items c.requires }
