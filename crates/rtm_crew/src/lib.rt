@@ -5,12 +5,10 @@
 mod ready;
 mod region;
 mod run;
-mod runner;
 mod send;
 mod telling;
 
 pub use ready::{NoRun, make_ready};
 pub use region::Region;
 pub use run::{run_with, seq_run};
-pub use runner::{InTurns, Runner};
 pub use send::regions_are_send;

@@ -1,7 +1,6 @@
 //! A run on threads.
 
 ghost use Rattle.std.specs.Prelude.{◌≡◌, IfErr, IfOk, Some, []};
-ghost use Rattle.rtm_crew.specs.Histories.{in_any_order};
 ghost use Rattle.rtm_desk.specs.Told.{told_by, told_to};
 ghost use Rattle.rtm_model.specs.Legal.{Legal, end_of};
 
@@ -11,7 +10,7 @@ use crate::gate::Gate;
 use crate::running::Running;
 use crate::starts::{EachStarts, Starts};
 use crate::worker::{RegionLock, work};
-use rtm_crew::{NoRun, Region, Runner, make_ready};
+use rtm_crew::{NoRun, Region, make_ready};
 use rtm_deck_items::Deck;
 use rtm_desk::Manager;
 use rtm_lock::Lock;
@@ -108,31 +107,4 @@ pub fn drive<M: Manager + Send, G: Gate, R: Threads + Wait + Sync>(
         told_to M.class M.released no_run.managers.items ≡ told_by []) }
 {
     drive_by::<M, G, EachStarts, R>(rt, alloc, deck, managers, gate, &EachStarts)
-}
-
-/// Runs decks on threads, a worker for each unit: it makes whatever history its threads come to.
-#[derive(Clone, Copy)]
-pub struct OnThreads<'a, G, R> {
-    pub rt: &'a R,
-    pub gate: &'a G,
-}
-
-impl<G: Gate, R: Threads + Wait + Sync> Runner for OnThreads<'_, G, R> {
-    ghost makes = { in_any_order };
-
-    fn run<M: Manager + Send>(
-        &self,
-        alloc: Global,
-        deck: Deck,
-        managers: Vec<M>,
-    ) -> Result<(Region<M>, End), NoRun<M>>
-        requires { told_to M.class M.released managers.items ≡ told_by [] }
-        ensures deck { IfOk result (λ run. run.0.system.deck ≡ deck) }
-        ensures made { IfOk result (λ run. in_any_order deck run.0.system.trace) }
-        ensures end { IfOk result (λ run. end_of deck run.0.system.trace ≡ Some run.1) }
-        ensures refused { IfErr result (λ no_run.
-            told_to M.class M.released no_run.managers.items ≡ told_by []) }
-    {
-        drive::<M, G, R>(self.rt, alloc, deck, managers, self.gate)
-    }
 }

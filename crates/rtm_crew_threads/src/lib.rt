@@ -10,6 +10,6 @@ mod running;
 mod starts;
 mod worker;
 
-pub use driving::{OnThreads, drive, drive_by};
+pub use driving::{drive, drive_by};
 pub use gate::{Gate, OpenGate};
 pub use starts::{EachStarts, Starts};

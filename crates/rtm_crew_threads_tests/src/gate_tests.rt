@@ -1,9 +1,11 @@
 //! Two workers run side by side, and each makes the entries of its own unit.
 
-use crate::decks::{BATCH, are_told, is_verified, run};
+use crate::calls::{called, entries_of};
+use crate::decks::BATCH;
 use crate::record::Record;
-use rtm_crew_threads::{EachStarts, Gate};
-use rtm_model::{End, Entry, Place, What};
+use rtm_crew_threads::{Gate, OpenGate};
+use rtm_model::{Entry, Place, What};
+use rtm_top::Status;
 use std::sync::atomic::{AtomicBool, Ordering};
 use std::test::Fail;
 
@@ -80,14 +82,11 @@ fn two_workers_run_side_by_side(rt: HostRuntime) -> Result<(), Fail> {
     let gate = Passing {
         meeting: make_meeting(),
     };
-    match run(&rt, alloc, BATCH, &gate, &EachStarts) {
-        Some((region, end)) => {
-            assert!(rt; gate.meeting.both_met());
-            assert!(rt; matches!(end, End::Ended));
-            assert!(rt; is_verified(alloc, BATCH, &region, end));
-        }
-        None => assert!(rt; false),
-    }
+    let (status, trace) = called(&rt, alloc, "run", &[BATCH], &gate)?;
+    assert!(rt; gate.meeting.both_met());
+    assert!(rt; status == Status::Fine);
+    let (judgement, _) = called(&rt, alloc, "verify", &[BATCH, trace.as_slice()], &OpenGate)?;
+    assert!(rt; judgement == Status::Fine);
     Ok(())
 }
 
@@ -130,15 +129,39 @@ fn each_makes_its_own_entries(rt: HostRuntime) -> Result<(), Fail> {
         read_was_told: AtomicBool::new(false),
         record: Record::new(alloc)?,
     };
-    match run(&rt, alloc, BATCH, &gate, &EachStarts) {
-        Some((region, end)) => {
-            assert!(rt; gate.meeting.both_met());
-            assert!(rt; gate.record.is_of(region.system().trace()));
-            assert!(rt; matches!(end, End::Ended));
-            assert!(rt; is_verified(alloc, BATCH, &region, end));
-            assert!(rt; are_told(region));
-        }
+    let (status, trace) = called(&rt, alloc, "run", &[BATCH], &gate)?;
+    assert!(rt; gate.meeting.both_met());
+    assert!(rt; status == Status::Fine);
+    match entries_of(alloc, BATCH, &trace) {
+        Some(entries) => assert!(rt; gate.record.is_of(&entries)),
         None => assert!(rt; false),
     }
+    let (judgement, _) = called(&rt, alloc, "verify", &[BATCH, trace.as_slice()], &OpenGate)?;
+    assert!(rt; judgement == Status::Fine);
+    Ok(())
+}
+
+const ONE_UNIT: &[u8] = b"MAIN PROG
+ NOP
+ RETURN
+ PEND
+JOB TASK PGM=MAIN
+ END
+";
+
+const ITS_TRACE: &[u8] = b"RTMTRACE 1
+0 JOB EXEC MAIN.1 RC=0
+1 JOB BEGIN S000
+2 JOB DONE S000
+3 * MEMEND
+END ENDED
+";
+
+// A deck of one unit has one history.
+#[test]
+fn one_unit_is_run(rt: HostRuntime) -> Result<(), Fail> {
+    let (status, trace) = called(&rt, rt.alloc(), "run", &[ONE_UNIT], &OpenGate)?;
+    assert!(rt; status == Status::Fine);
+    assert!(rt; trace.as_slice() == ITS_TRACE);
     Ok(())
 }

@@ -11,5 +11,5 @@ pub use outcome::Outcome;
 pub use request::{Request, request_of};
 pub use rtm_top_answers::Status;
 pub use send::types_are_send;
-pub use top::{do_request, plain_words};
+pub use top::{or_memory, plain_words, too_long_answer, write_answer};
 pub use word::RtmWord;

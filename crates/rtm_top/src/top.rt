@@ -18,17 +18,16 @@ use crate::request::{Request, request_of};
 use crate::word::RtmWord;
 use rtm_cards::MOST_BYTES;
 use rtm_codes::NoMemory;
-use rtm_crew::{InTurns, Runner};
 use rtm_deck_items::Why;
 use rtm_desk::Manager;
 use rtm_io::{InFault, Sink, Source, read_all, write_all};
 use rtm_top_answers::{
-    Answer, Status, load_answer, refusal, run_answer, scan_answer, verify_answer,
+    Answer, Status, load_answer, refusal, scan_answer, seq_answer, verify_answer,
 };
 use std::alloc::Global;
 
-// Want of memory is the status Memory.
-fn or_memory(answer: Result<Answer, NoMemory>) -> Result<Answer, Status>
+/// Want of memory is the status Memory.
+pub fn or_memory(answer: Result<Answer, NoMemory>) -> Result<Answer, Status>
     ensures ok { IfOk result (λ made. answer ≡ Ok made) }
     ensures err { IfErr result (λ status. status ≡ Status.Memory) }
     ensures refused { IfErr result (λ status. IsErr answer) }
@@ -39,13 +38,12 @@ fn or_memory(answer: Result<Answer, NoMemory>) -> Result<Answer, Status>
     }
 }
 
-// What is to be written of a run by that runner, whose histories are legal ones.
+// What is to be written of a run in whatever order: on one thread it is in turns.
 #[tactic(auto, using(crate::proofs::Saying::in_whatever_order, crate::proofs::Saying::told_in_whatever_order))]
-fn legal_answer<M: Manager + Send, X: Runner>(
+fn legal_answer<M: Manager>(
     alloc: Global,
     bytes: &[u8],
     managers: Vec<M>,
-    runner: &X,
 ) -> (Result<Answer, NoMemory>, Vec<M>)
     requires { told_to M.class M.released managers.items ≡ told_by [] }
     ensures made { IfOk result.0 (λ answer.
@@ -53,17 +51,16 @@ fn legal_answer<M: Manager + Send, X: Runner>(
     ensures refused { IfErr result.0 (λ e.
         AreToldOfRunOrNothing in_any_order bytes.now (told_to M.class M.released result.1.items)) }
 {
-    run_answer::<M, X>(alloc, bytes, managers, runner)
+    seq_answer::<M>(alloc, bytes, managers)
 }
 
 // What is to be written of the bytes that were read, and the managers, which are told of the run, where there is one.
 #[tactic(auto, using(crate::proofs::Saying::untold_yet, crate::proofs::Saying::unanswered, crate::proofs::Saying::unanswered_run))]
-fn answer_of<M: Manager + Send, X: Runner>(
+fn answer_of<M: Manager>(
     alloc: Global,
     request: Request,
     bytes: &[u8],
     managers: Vec<M>,
-    runner: &X,
 ) -> (Result<Answer, Status>, Vec<M>)
     requires reads { Reads request }
     requires few { length bytes.now ≤ most_bytes }
@@ -76,16 +73,16 @@ fn answer_of<M: Manager + Send, X: Runner>(
 {
     let (answer, managers) = match request {
         Request::Scan => (scan_answer(alloc, bytes), managers),
-        Request::Seq => run_answer::<M, InTurns>(alloc, bytes, managers, &InTurns),
-        Request::Run => legal_answer::<M, X>(alloc, bytes, managers, runner),
+        Request::Seq => seq_answer::<M>(alloc, bytes, managers),
+        Request::Run => legal_answer::<M>(alloc, bytes, managers),
         Request::Verify => (verify_answer(alloc, bytes), managers),
         Request::Load(_) => unreachable!("a load reads nothing"),
     };
     (or_memory(answer), managers)
 }
 
-// What is to be written where more bytes came than are read, the first of them too many on that card.
-fn too_long_answer(alloc: Global, card: u32) -> Result<Answer, Status>
+/// What is to be written where more bytes came than are read, the first of them too many on that card, from 1.
+pub fn too_long_answer(alloc: Global, card: u32) -> Result<Answer, Status>
     ensures ok { IfOk result (λ answer. answer ≡ refusal card Why.TooLong) }
     ensures err { IfErr result (λ status. status ≡ Status.Memory) }
 {
@@ -94,12 +91,11 @@ fn too_long_answer(alloc: Global, card: u32) -> Result<Answer, Status>
 
 // Reads all bytes, and makes what is to be written of them.
 #[tactic(auto, using(crate::proofs::TooLong::of_fault, crate::proofs::Saying::due_read, crate::proofs::Saying::unmade_read, crate::proofs::Saying::unmade_for_memory, crate::proofs::Saying::unmade_by_memory, crate::proofs::Saying::unmade_by_read))]
-fn read_answer<S: Source, M: Manager + Send, X: Runner>(
+fn read_answer<S: Source, M: Manager>(
     alloc: Global,
     request: Request,
     src: &mut S,
     managers: Vec<M>,
-    runner: &X,
 ) -> (Result<Answer, Status>, Vec<M>)
     requires reads { Reads request }
     requires untold { told_to M.class M.released managers.items ≡ told_by [] }
@@ -113,7 +109,7 @@ fn read_answer<S: Source, M: Manager + Send, X: Runner>(
     ensures later { S.faults src.old ≤ S.faults src.new }
 {
     match read_all(alloc, src, MOST_BYTES) {
-        Ok(bytes) => answer_of::<M, X>(alloc, request, &bytes, managers, runner),
+        Ok(bytes) => answer_of::<M>(alloc, request, &bytes, managers),
         Err(InFault::TooLong { line }) => (too_long_answer(alloc, line), managers),
         Err(InFault::Memory) => (Err(Status::Memory), managers),
         Err(InFault::Read) => (Err(Status::Read), managers),
@@ -131,12 +127,11 @@ fn load_made(alloc: Global, tasks: u8) -> Result<Answer, Status>
 
 // Makes what is to be written. A load leaves the source alone, and the managers.
 #[tactic(auto, using(crate::proofs::Saying::due_load, crate::proofs::Saying::takes_none, crate::proofs::Saying::unmade_for_memory))]
-fn make_answer<S: Source, M: Manager + Send, X: Runner>(
+fn make_answer<S: Source, M: Manager>(
     alloc: Global,
     request: Request,
     src: &mut S,
     managers: Vec<M>,
-    runner: &X,
 ) -> (Result<Answer, Status>, Vec<M>)
     requires known { IsRequest request }
     requires untold { told_to M.class M.released managers.items ≡ told_by [] }
@@ -152,12 +147,12 @@ fn make_answer<S: Source, M: Manager + Send, X: Runner>(
 {
     match request {
         Request::Load(tasks) => (load_made(alloc, tasks), managers),
-        _ => read_answer::<S, M, X>(alloc, request, src, managers, runner),
+        _ => read_answer::<S, M>(alloc, request, src, managers),
     }
 }
 
-// Writes the answer, and says with which status the call ends.
-fn write_answer<K: Sink>(out: &mut K, answer: &Answer) -> Status
+/// Writes the answer, and says with which status the call ends.
+pub fn write_answer<K: Sink>(out: &mut K, answer: &Answer) -> Status
     ensures sent { IsSent answer.now (K.faults out.old) (K.faults out.new)
         (K.written out.old) (K.written out.new) result }
     ensures later { K.faults out.old ≤ K.faults out.new }
@@ -231,23 +226,22 @@ pub fn plain_words<S: Source, K: Sink>(
             managers,
         },
         Some(request) => {
-            let (status, managers) = do_request::<S, K, Box<dyn Manager + Send>, InTurns>(
-                alloc, request, src, out, managers, &InTurns,
+            let (status, managers) = done::<S, K, Box<dyn Manager + Send>>(
+                alloc, request, src, out, managers,
             );
             Outcome { status, managers }
         }
     }
 }
 
-/// Does what is asked for, and answers the status and the managers, in the same order. A `run` is made by that runner.
+// Does what is asked for, and answers the status and the managers.
 #[tactic(auto, using(crate::proofs::Saying::says_sent, crate::proofs::Saying::says_unmade, crate::proofs::Saying::sent_is_not_read, crate::proofs::Saying::sent_is_not_memory, crate::proofs::Saying::sent_is_not_words, crate::proofs::Saying::unmade_is_not_words))]
-pub fn do_request<S: Source, K: Sink, M: Manager + Send, X: Runner>(
+fn done<S: Source, K: Sink, M: Manager>(
     alloc: Global,
     request: Request,
     src: &mut S,
     out: &mut K,
     managers: Vec<M>,
-    runner: &X,
 ) -> (Status, Vec<M>)
     requires known { IsRequest request }
     requires untold { told_to M.class M.released managers.items ≡ told_by [] }
@@ -269,7 +263,7 @@ pub fn do_request<S: Source, K: Sink, M: Manager + Send, X: Runner>(
       told = told_to M.class M.released result.1.items;
     }) result.0 }
 {
-    let (answer, managers) = make_answer::<S, M, X>(alloc, request, src, managers, runner);
+    let (answer, managers) = make_answer::<S, M>(alloc, request, src, managers);
     match answer {
         Err(status) => (status, managers),
         Ok(answer) => (write_answer(out, &answer), managers),

@@ -13,7 +13,7 @@ mod verify;
 pub use answer::Answer;
 pub use load::load_answer;
 pub use refusals::refusal;
-pub use run::run_answer;
+pub use run::{seq_answer, traced_answer};
 pub use scan::scan_answer;
 pub use send::types_are_send;
 pub use status::Status;

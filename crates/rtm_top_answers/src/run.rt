@@ -1,6 +1,7 @@
-//! What is written of a deck that is run.
+//! What is written of a deck that is run, and of one that is run on one thread.
 
 ghost use Rattle.std.specs.Prelude.{◌≡◌, ◌⊎◌, [], IfErr, IfOk};
+ghost use Rattle.rtm_crew.specs.Histories.{in_turns};
 ghost use Rattle.rtm_desk.specs.Told.{told_by, told_to};
 ghost use Rattle.rtm_top_answers.specs.Run.{AreToldOfRunIn, AreToldOfRunOrNothing, IsRunAnswer, IsRunIn, traced_answer};
 
@@ -8,7 +9,7 @@ use crate::answer::Answer;
 use crate::refusals::refusal;
 use crate::status::Status;
 use rtm_codes::NoMemory;
-use rtm_crew::{NoRun, Runner};
+use rtm_crew::{NoRun, run_with};
 use rtm_deck::{DeckFault, read_deck};
 use rtm_deck_items::Deck;
 use rtm_desk::Manager;
@@ -17,8 +18,8 @@ use rtm_system::System;
 use rtm_trace::trace_text;
 use std::alloc::Global;
 
-// The trace of a system, to its end.
-fn traced_answer(alloc: Global, system: &System, end: End) -> Result<Answer, NoMemory>
+/// What is to be written of a system that has run to this end: its trace.
+pub fn traced_answer(alloc: Global, system: &System, end: End) -> Result<Answer, NoMemory>
     ensures { IfOk result (λ answer. answer ≡ traced_answer system.now.deck system.now.trace end) }
 {
     Ok(Answer {
@@ -27,23 +28,22 @@ fn traced_answer(alloc: Global, system: &System, end: End) -> Result<Answer, NoM
     })
 }
 
-// What is written of a deck that is run, and the managers, told of its releases. Where memory is wanting before the
+// What is written of a deck that is run on one thread, and the managers, told of its releases. Where memory is wanting before the
 // first entry they were told nothing, and where the text can't be made they were told of all.
 #[tactic(auto, using(crate::proofs::Answers::run_in, crate::proofs::Answers::told_all, crate::proofs::Answers::told_none))]
-fn deck_answer<M: Manager + Send, X: Runner>(
+fn deck_answer<M: Manager>(
     alloc: Global,
     deck: Deck,
     managers: Vec<M>,
-    runner: &X,
 ) -> (Result<Answer, NoMemory>, Vec<M>)
     requires { told_to M.class M.released managers.items ≡ told_by [] }
     ensures made { IfOk result.0 (λ answer.
-        IsRunIn X.makes deck answer (told_to M.class M.released result.1.items)) }
+        IsRunIn in_turns deck answer (told_to M.class M.released result.1.items)) }
     ensures refused { IfErr result.0 (λ e.
         (told_to M.class M.released result.1.items ≡ told_by [])
-        ⊎ AreToldOfRunIn X.makes deck (told_to M.class M.released result.1.items)) }
+        ⊎ AreToldOfRunIn in_turns deck (told_to M.class M.released result.1.items)) }
 {
-    match runner.run::<M>(alloc, deck, managers) {
+    match run_with::<M>(alloc, deck, managers) {
         Ok((region, end)) => {
             let (system, managers) = region.into_parts();
             system.trace();
@@ -53,24 +53,23 @@ fn deck_answer<M: Manager + Send, X: Runner>(
     }
 }
 
-/// What is to be written for the bytes of a deck that this runner runs: the trace of its run, or its first fault. These
+/// What is to be written for the bytes of a deck under the word `seq`: the trace of its run, or its first fault. These
 /// managers are told of the releases of the run. There are four of them, in the order of the classes, ENQ, STOR, DSN,
 /// TIMR, and they were told nothing yet; they come back in that order.
 #[tactic(auto, using(crate::proofs::Answers::run_deck, crate::proofs::Answers::run_fault, crate::proofs::Answers::told_deck, crate::proofs::Answers::told_nothing))]
-pub fn run_answer<M: Manager + Send, X: Runner>(
+pub fn seq_answer<M: Manager>(
     alloc: Global,
     bytes: &[u8],
     managers: Vec<M>,
-    runner: &X,
 ) -> (Result<Answer, NoMemory>, Vec<M>)
     requires { told_to M.class M.released managers.items ≡ told_by [] }
     ensures made { IfOk result.0 (λ answer.
-        IsRunAnswer X.makes bytes.now answer (told_to M.class M.released result.1.items)) }
+        IsRunAnswer in_turns bytes.now answer (told_to M.class M.released result.1.items)) }
     ensures refused { IfErr result.0 (λ e.
-        AreToldOfRunOrNothing X.makes bytes.now (told_to M.class M.released result.1.items)) }
+        AreToldOfRunOrNothing in_turns bytes.now (told_to M.class M.released result.1.items)) }
 {
     match read_deck(alloc, bytes) {
-        Ok(deck) => deck_answer::<M, X>(alloc, deck, managers, runner),
+        Ok(deck) => deck_answer::<M>(alloc, deck, managers),
         Err(DeckFault::Memory) => (Err(NoMemory), managers),
         Err(DeckFault::Refused { card, why }) => (refusal(alloc, card, why), managers),
     }

@@ -1,18 +1,20 @@
 //! The top call of the program: all that it does, on threads where it is to.
 
-ghost use Rattle.std.specs.Prelude.{◌≡◌, ◌↔◌, ◌≤◌, ◌+◌, [], ℕ, map};
+ghost use Rattle.std.specs.Prelude.{◌≡◌, ◌≢◌, ◌↔◌, ◌≤◌, ◌+◌, [], ℕ, map};
 ghost use Rattle.rtm_cards.specs.Limits.{most_bytes};
-ghost use Rattle.rtm_desk.specs.Told.{Row, told_by};
+ghost use Rattle.rtm_desk.specs.Told.{Row, told_by, told_to};
 ghost use Rattle.rtm_io.specs.Stream.{TakesAtMost};
+ghost use Rattle.rtm_top.specs.Answer.{Says};
 ghost use Rattle.rtm_top.specs.Due.{AnswersWords};
 ghost use Rattle.rtm_top.specs.Request.{AreUnknown, IsRequest, words_of};
 ghost use Rattle.rtm_top.specs.declared.request.Request.{Request};
-ghost use Rattle.rtm_top_answers.specs.declared.status.Status.{Status};
 
-use rtm_crew_threads::{Gate, OnThreads};
+use crate::run::read_and_run;
+use rtm_crew_threads::Gate;
 use rtm_desk::Manager;
 use rtm_io::{Sink, Source};
-use rtm_top::{Outcome, Request, RtmWord, do_request, plain_words, request_of};
+use rtm_top::{Outcome, Request, RtmWord, plain_words, request_of, write_answer};
+use rtm_top_answers::Status;
 use std::alloc::Global;
 use std::sync::Wait;
 use std::thread::Threads;
@@ -74,20 +76,47 @@ pub fn rtm_words<S: Source, K: Sink, G: Gate, R: Threads + Wait + Sync>(
 {
     match request_of(words) {
         Some(Request::Run) => {
-            let runner = OnThreads { rt, gate };
             let (status, managers) =
-                do_request::<S, K, Box<dyn Manager + Send>, OnThreads<G, R>>(
-                    alloc,
-                    Request::Run,
-                    src,
-                    out,
-                    managers,
-                    &runner,
-                );
+                run_words::<S, K, Box<dyn Manager + Send>, G, R>(rt, alloc, src, out, managers, gate);
             Outcome { status, managers }
         }
         Some(Request::Scan | Request::Seq | Request::Verify | Request::Load(_)) | None => {
             plain_words(alloc, words, src, out, managers)
         }
+    }
+}
+
+// Does what `run` asks for, and answers the status and the managers.
+#[tactic(auto, using(rtm_top::proofs::Saying::says_sent, rtm_top::proofs::Saying::says_unmade, rtm_top::proofs::Saying::sent_is_not_read, rtm_top::proofs::Saying::sent_is_not_memory, rtm_top::proofs::Saying::sent_is_not_words, rtm_top::proofs::Saying::unmade_is_not_words))]
+fn run_words<S: Source, K: Sink, M: Manager + Send, G: Gate, R: Threads + Wait + Sync>(
+    rt: &R,
+    alloc: Global,
+    src: &mut S,
+    out: &mut K,
+    managers: Vec<M>,
+    gate: &G,
+) -> (Status, Vec<M>)
+    requires { told_to M.class M.released managers.items ≡ told_by [] }
+    ensures known { result.0 ≢ Status.Words }
+    ensures read { result.0 ≡ Status.Read → out.new ≡ out.old }
+    ensures memory { result.0 ≡ Status.Memory → out.new ≡ out.old }
+    ensures front { TakesAtMost (most_bytes + 1) (S.left src.old) (S.left src.new) }
+    ensures later { S.faults src.old ≤ S.faults src.new }
+    ensures sink_later { K.faults out.old ≤ K.faults out.new }
+    ensures answer { Says Request.Run (record {
+      left = S.left src.old;
+      source_before = S.faults src.old;
+      source_now = S.faults src.new;
+      sink_before = K.faults out.old;
+      sink_now = K.faults out.new;
+      written_before = K.written out.old;
+      written_now = K.written out.new;
+      told = told_to M.class M.released result.1.items;
+    }) result.0 }
+{
+    let (answer, managers) = read_and_run::<S, M, G, R>(rt, alloc, src, managers, gate);
+    match answer {
+        Err(status) => (status, managers),
+        Ok(answer) => (write_answer(out, &answer), managers),
     }
 }
