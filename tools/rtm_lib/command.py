@@ -51,6 +51,7 @@ SWEEP_EXAMPLES = """\
   tools/rtm sweep my.deck --command "CANCEL WORKER,DUMP=YES" --require CLEANUP
   tools/rtm sweep my.deck --html -o sweep.html
   tools/rtm sweep my.deck --orders --jobs 4
+  tools/rtm sweep my.deck --orders 200
   tools/rtm sweep my*.deck --plan --each 50 | parallel | tools/rtm sweep - --gather"""
 WHY_EXAMPLES = """\
   tools/rtm why examples/term.deck 6
@@ -152,7 +153,8 @@ def add_sweep(words: Any) -> argparse.ArgumentParser:
     """The word `sweep`."""
     parser = add_word(words, "sweep", sweep, SWEEP_EXAMPLES, "move a cancel over all moments of a run",
                       "Runs a deck once for each moment at which a cancel can come, and says what became of it.")
-    parser.add_argument("decks", nargs="+", metavar="deck",
+    # At least one, which may stand behind --orders.
+    parser.add_argument("decks", nargs="*", metavar="deck",
                         help="the decks, or - for standard input; with --gather the lines that jobs printed")
     parser.add_argument("--command", metavar="CARD", help='the command that moves, as "CANCEL JOB" (the deck\'s first '
                         "command, else a cancel of the job step task)")
@@ -162,8 +164,8 @@ def add_sweep(words: Any) -> argparse.ArgumentParser:
     parser.add_argument("--to", dest="last", type=entry_number, metavar="N", help="up to this moment")
     parser.add_argument("--all", action="store_true", help="all moments, also where there are more than 2,000")
     parser.add_argument("--jobs", type=entry_number, default=1, metavar="N", help="so many runs at a time")
-    parser.add_argument("--orders", action="store_true", help="move all commands of the deck, in all the orders in "
-                        "which they may arrive (10,000 runs at most)")
+    parser.add_argument("--orders", nargs="?", const="", metavar="N", help="move all commands of the deck, in all the "
+                        "orders in which they may arrive (10,000 runs at most); and make N runs on threads")
     kinds = parser.add_mutually_exclusive_group()
     kinds.add_argument("--html", action="store_true", help="a page with one row a moment")
     kinds.add_argument("--json", action="store_true", help="the moments as JSON")

@@ -6,7 +6,7 @@ import os
 import re
 import subprocess
 import time
-from dataclasses import dataclass
+from dataclasses import dataclass, replace
 from pathlib import Path
 from typing import List, Optional, Tuple
 
@@ -77,6 +77,14 @@ class Rtmrun:
     def run(self, deck: bytes) -> bytes:
         """The trace of a deck, as one thread makes it."""
         status, written = self.ask(["seq"], deck)
+        if status in RUN_WRITTEN and written.startswith(TRACE_HEAD):
+            return written
+        raise refusal(deck, status, written)
+
+    def run_on_threads(self, deck: bytes) -> bytes:
+        """A trace of a deck, as many threads make it. Nothing promises that such a run returns, so each is bounded."""
+        bounded = self if self.until is not None else replace(self, until=time.monotonic() + MOST_SECONDS)
+        status, written = bounded.ask(["run"], deck)
         if status in RUN_WRITTEN and written.startswith(TRACE_HEAD):
             return written
         raise refusal(deck, status, written)

@@ -10,6 +10,7 @@ from dataclasses import dataclass
 from pathlib import Path
 from typing import Any, Dict, List, Optional, Sequence, Tuple
 
+from .deck import number_in
 from .failures import CANNOT_READ, Failure, NOT_ENTERED, OK, WRONG_WORDS, tell
 from .files import STDIN, read_file, write
 from .moments import (NEVER, Moment, Swept, check_routine, is_entered, listed_moments, moments_of, prepare, row_key,
@@ -36,7 +37,11 @@ class Sweep:
 
 def sweep(arguments: argparse.Namespace) -> int:
     """Runs, gathers or plans, and ends with 1 where a routine that is required isn't entered."""
-    if arguments.orders:
+    read_orders(arguments)
+    if not arguments.decks:
+        raise Failure("the following arguments are required: deck; rtm sweep --help says which words there are",
+                      WRONG_WORDS)
+    if arguments.orders is not None:
         return sweep_orders(arguments)
     if arguments.html and len(arguments.decks) > 1:
         raise Failure("--html is the page of one deck", WRONG_WORDS)
@@ -48,6 +53,17 @@ def sweep(arguments: argparse.Namespace) -> int:
         found = [sweep_deck(arguments, name) for name in sorted(set(arguments.decks))]
     write(arguments.output, shown(found, arguments))
     return max(required(one, arguments.require) for one in found)
+
+
+def read_orders(arguments: argparse.Namespace) -> None:
+    """Behind --orders a number may stand, of runs on threads. What is none is a deck."""
+    word = arguments.orders
+    if word is None:
+        return
+    number = number_in(word)
+    if word and number is None:
+        arguments.decks.insert(0, word)
+    arguments.orders = number or 0
 
 
 def run_part(arguments: argparse.Namespace) -> int:

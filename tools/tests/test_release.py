@@ -83,7 +83,8 @@ class WordsTest(unittest.TestCase):
         for line, wanted in (("rtm sw", ["sweep"]), ("rtm sweep x.deck --or", ["--orders"]),
                              ("rtm view cancel.d", ["cancel.deck"]), ("rtm view --sv", ["--svg"]),
                              ("rtm why cancel.deck 3 cancel.t", ["cancel.trace"]), ("rtm sweep --command C", []),
-                             ("rtmrun ver", ["verify"]), ("rtmrun verify cancel", ["cancel.deck"]),
+                             ("rtmrun ver", ["verify"]), ("rtmrun ru", ["run"]), ("rtmrun run cancel", ["cancel.deck"]),
+                             ("rtmrun verify cancel", ["cancel.deck"]),
                              ("rtmrun verify cancel.deck cancel", ["cancel.trace"]), ("rtmrun load c", [])):
             words = line.split(" ")
             script = "source '%s'; source '%s'; COMP_WORDS=(%s); COMP_CWORD=%d; _%s; echo \"${COMPREPLY[@]}\"" % (

@@ -157,6 +157,20 @@ class SweepTest(WithProgram):
         self.sweep("-", "--orders", "--html", text=TWO_COMMANDS, status=20)
         self.assertIn("CANCEL JOB: ", self.sweep("-", "--orders", text=SMALL))
 
+    def test_runs_on_threads_have_orders_too(self) -> None:
+        lines = self.sweep("-", "--orders", "20", text=TWO_COMMANDS).splitlines()
+        self.assertRegex(lines[1], "^20 runs on threads: [0-9]+ different traces, [0-9]+ further outcomes$")
+        self.assertRegex(lines[3], "^TIDY is entered .* of the [0-9]+ traces of threads.$")
+        report = json.loads(self.sweep("-", "--orders", "20", "--json", "--jobs", "2", text=TWO_COMMANDS))
+        self.assertEqual(report["threads"]["runs"], 20)
+        self.assertEqual(report["threads"]["traces"], sum(outcome["threads"] for outcome in report["outcomes"]))
+        self.assertEqual(report["orders"], sum(outcome["orders"] for outcome in report["outcomes"]))
+        # A deck of one unit: each run on threads is one of the orders that one thread makes.
+        self.assertIn(", 0 further outcomes", self.sweep("-", "--orders", "5", text=SMALL).splitlines()[1])
+        self.assertNotIn("threads", self.sweep("--orders", "-", text=SMALL))
+        for words in (["--orders"], ["--orders", "5"], ["-", "--orders", "10001"]):
+            self.sweep(*words, text=SMALL, status=20)
+
     def test_the_page_has_a_row_for_each_moment(self) -> None:
         page = self.sweep(str(CANCEL), "--html")
         self.assertEqual(page.count('<th scope="row">'), 21)
