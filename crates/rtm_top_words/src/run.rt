@@ -65,7 +65,7 @@ fn run_answer<M: Manager + Send, G: Gate, R: Threads + Wait + Sync>(
         IsRunAnswer in_any_order bytes.now answer (told_to M.class M.released result.1.items)) }
     ensures refused { IfErr result.0 (λ e.
         AreToldOfRunOrNothing in_any_order bytes.now
-            (told_to M.class M.released result.1.items)) }
+        (told_to M.class M.released result.1.items)) }
 {
     match read_deck(alloc, bytes) {
         Ok(deck) => deck_answer::<M, G, R>(rt, alloc, deck, managers, gate),
@@ -89,7 +89,7 @@ fn run_or_status<M: Manager + Send, G: Gate, R: Threads + Wait + Sync>(
     ensures err { IfErr result.0 (λ status. status ≡ Status.Memory) }
     ensures told { IfErr result.0 (λ status.
         AreToldOfRunOrNothing in_any_order bytes.now
-            (told_to M.class M.released result.1.items)) }
+        (told_to M.class M.released result.1.items)) }
 {
     let (answer, managers) = run_answer::<M, G, R>(rt, alloc, bytes, managers, gate);
     (or_memory(answer), managers)

@@ -76,13 +76,12 @@ pub fn rtm_words<S: Source, K: Sink, G: Gate, R: Threads + Wait + Sync>(
 {
     match request_of(words) {
         Some(Request::Run) => {
-            let (status, managers) =
-                run_words::<S, K, Box<dyn Manager + Send>, G, R>(rt, alloc, src, out, managers, gate);
+            let (status, managers) = run_words::<S, K, Box<dyn Manager + Send>, G, R>(
+                rt, alloc, src, out, managers, gate,
+            );
             Outcome { status, managers }
         }
-        Some(Request::Scan | Request::Seq | Request::Verify | Request::Load(_)) | None => {
-            plain_words(alloc, words, src, out, managers)
-        }
+        _ => plain_words(alloc, words, src, out, managers),
     }
 }
 
