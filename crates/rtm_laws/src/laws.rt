@@ -1,6 +1,7 @@
 //! Each law is the contract of a function that does no work.
 
 ghost use Rattle.std.specs.Prelude.{IsTrue, List, ℕ};
+ghost use Rattle.rtm_crew.specs.Histories.{in_any_order, in_turns};
 ghost use Rattle.rtm_deck_items.specs.View.{DeckView};
 ghost use Rattle.rtm_deck_items.specs.WellFormed.{is_well_formed};
 ghost use Rattle.rtm_desk.specs.Told.{Row};
@@ -47,10 +48,13 @@ pub fn every_judged_history_keeps_the_laws(deck: &Deck, entries: &[Entry], end: 
     deck.keeps_its_form();
 }
 
-/// Every history that is written under `seq` or `run` keeps the three laws, whichever the runner makes.
+/// Every history that is written under `seq` or `run` keeps the three laws.
 pub fn every_written_run_keeps_the_laws()
-    ensures { (makes : DeckView → List Entry → Type 0) (bytes : List ℕ) (answer : AnswerView)
-        (told : List Row) → (written : IsRunOf makes bytes answer told)
+    ensures in_turns { (bytes : List ℕ) (answer : AnswerView) (told : List Row)
+        → (written : IsRunOf in_turns bytes answer told)
+        → KeepsTheLaws written.deck written.run.history }
+    ensures in_any_order { (bytes : List ℕ) (answer : AnswerView) (told : List Row)
+        → (written : IsRunOf in_any_order bytes answer told)
         → KeepsTheLaws written.deck written.run.history }
 {
     every_legal_history_keeps_the_laws();
