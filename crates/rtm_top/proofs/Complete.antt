@@ -16,13 +16,12 @@ use Rattle.rtm_model.specs.declared.entry.Entry.{Entry}
 use Rattle.rtm_model.specs.Legal.{end_of}
 use Rattle.rtm_model.specs.Turns.{seq}
 use Rattle.rtm_cards.specs.Split.{front_in, trace_part}
-use Rattle.rtm_trace.specs.Lines.{IsTraceOf}
 use Rattle.rtm_trace.specs.View.{TraceView}
 use Rattle.rtm_trace.proofs.Replies.{not_both}
 use Rattle.rtm_trace.proofs.TraceLaws.{one_trace}
 use Rattle.rtm_top.specs.declared.request.Request.{Request}
 use Rattle.rtm_top.specs.declared.request.Request.TheVariants as requests
-use Rattle.rtm_top.specs.Answer.{Call, IsAnswer, IsDue, Says}
+use Rattle.rtm_top.specs.Answer.{Call, IsDue, Says}
 use Rattle.rtm_top.specs.Due.{ByItsJudgement, ByItsTrace, DeckIfFaulty, IsComplete, IsDueOf, IsDueStatus, IsOfAnEnd, IsOfItsEnd}
 use Rattle.rtm_top_answers.specs.Load.{IsLoadOf}
 use Rattle.rtm_crew.specs.Histories.{in_any_order, in_turns}

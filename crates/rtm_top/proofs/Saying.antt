@@ -1,5 +1,5 @@
 -- What the parts of a call come to: a status for what was read, made and written.
-use Rattle.std.proofs.Common.{◌≡◌, ℕ, ◌≤◌, Bool, true, false, List, [], Option, Some, None, Result, Ok, Err, refl, sym, ap, subst, ◌∙◌, inl, inr, arith}
+use Rattle.std.proofs.Common.{◌≡◌, ℕ, Bool, true, false, List, [], Option, Some, None, Result, Ok, Err, refl, sym, ap, subst, ◌∙◌, inl, inr, arith}
 use Rattle.std.specs.Prelude.{IfErr, IfOk, IfSome, IsErr}
 use Rattle.rtm_io.specs.Faults.{HasRisen}
 use Rattle.rtm_io.specs.Stream.{TakesAtMost}
@@ -12,7 +12,6 @@ use Rattle.rtm_top.specs.declared.request.Request.{Request}
 use Rattle.rtm_top.specs.declared.request.Request.TheVariants as requests
 use Rattle.rtm_top.specs.Answer.{AreToldUnanswered, AreToldWithoutMemory, Call, IsAnswer, IsDue, IsSent, IsUnmade, Says}
 use Rattle.rtm_top_answers.specs.Load.{IsLoadOf}
-use Rattle.rtm_top_answers.specs.Refusal.{IsRefusalOf}
 use Rattle.rtm_crew.specs.Histories.{in_any_order}
 use Rattle.rtm_top_answers.specs.Run.{AreToldOfRunOrNothing, IsRunAnswer}
 use Rattle.rtm_top_answers.specs.Status.{status_of}
