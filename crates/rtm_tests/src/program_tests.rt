@@ -107,7 +107,7 @@ fn decks_are_run(rt: HostRuntime) -> Result<(), Fail> {
     for (deck, status, text) in cases {
         is_answered(&rt, "seq", deck, (&[], &[]), status, text)?;
     }
-    Ok(())
+    is_answered(&rt, "run", ROW_1, (&[], &[]), Status::Fine, TRACE_1)
 }
 
 #[test]
@@ -156,7 +156,7 @@ fn other_words_touch_nothing(rt: HostRuntime) -> Result<(), Fail> {
     let lists: [&[&str]; 10] = [
         &[],
         &["scan", "scan"],
-        &["run"],
+        &["run", "run"],
         &["SEQ"],
         &["verify", "verify"],
         &["load"],
