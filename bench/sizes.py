@@ -1,15 +1,16 @@
 #!/usr/bin/env python3
 """Measures inputs at the limits of size: the processor's time, the most memory, the instructions, and how each grows.
 
-sizes.py PROGRAM [RUNS] [--no-instructions]
+sizes.py PROGRAM [RUNS] [--no-instructions] [--only TEXT]
 
 PROGRAM is the built rtmrun. Each row is an input at a limit and the same with half of what is limited. The processor's
 time is the least of RUNS runs (5); the most memory is what /usr/bin/time says, and is left out where that isn't there.
 Instructions are counted by valgrind's callgrind, where it is there, of runs that take less than a tenth of a second. The
 last column says how many times as much the whole takes as the half, by instructions where both are counted, else by
-time: at most 2.2 is wanted, what is more stands in asterisks, and the status is 1. A table for bench/README.md is
-printed.
+time: at most 2.2 is wanted, what is more stands in asterisks, and the status is 1. With --only the rows are measured
+whose name has that text. A table for bench/README.md is printed.
 """
+import argparse
 import os
 import re
 import shutil
@@ -199,15 +200,19 @@ def cell(value, form, unit):
 
 
 def main():
-    words = [word for word in sys.argv[1:] if word != "--no-instructions"]
-    if not words:
-        sys.exit(__doc__)
-    program, runs = os.path.abspath(words[0]), int(words[1]) if len(words) > 1 else 5
-    counts = "--no-instructions" not in sys.argv
+    parser = argparse.ArgumentParser(description=__doc__, formatter_class=argparse.RawDescriptionHelpFormatter)
+    parser.add_argument("program", metavar="PROGRAM")
+    parser.add_argument("runs", metavar="RUNS", type=int, nargs="?", default=5)
+    parser.add_argument("--no-instructions", action="store_true")
+    parser.add_argument("--only", metavar="TEXT", default="")
+    arguments = parser.parse_args()
+    program, runs, counts = os.path.abspath(arguments.program), arguments.runs, not arguments.no_instructions
     failed = 0
     print("| Limit | Word | Status | Bytes | Time | Memory | Instructions | The half's | Times |")
     print("|---|---|---|---|---|---|---|---|---|")
     for name, make, with_words in ROWS:
+        if arguments.only not in name:
+            continue
         for word in with_words:
             size, seconds, memory, count, status, _ = measured(program, word, make, 1, runs, counts)
             half = times = ""
